@@ -1,5 +1,5 @@
 -- How scenarios and records write a reply.
-use Rattle.std.specs.Prelude.{ℕ, pos, List, [], ◌++◌, codes}
+use Rattle.std.specs.Prelude.{ℕ, List, [], ◌++◌, codes}
 use Rattle.std.specs.Fmt.{decimal, signed_decimal}
 use Rattle.cx_names.specs.declared.Outcome.{Outcome}
 use Rattle.cx_names.specs.declared.Outcome.TheVariants as outcomes

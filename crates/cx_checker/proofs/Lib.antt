@@ -1,0 +1,12 @@
+pub mod Levels
+pub mod Gathering
+pub mod Placings
+pub mod Firsts
+pub mod ByObjects
+pub mod Knowing
+pub mod Completions
+pub mod Marked
+pub mod Stops
+pub mod Looking
+pub mod Shows
+pub mod Telling

@@ -1,0 +1,5 @@
+pub mod Form
+pub mod Memory
+pub mod Calls
+pub mod Next
+pub mod Steps

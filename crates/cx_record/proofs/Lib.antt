@@ -1,0 +1,9 @@
+pub mod Walked
+pub mod FaultOf
+pub mod Content
+pub mod GoingOn
+pub mod Typed
+pub mod ItemsFit
+pub mod Counts
+pub mod Meant
+pub mod Checkings

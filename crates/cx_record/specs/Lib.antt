@@ -1,0 +1,10 @@
+pub mod Printed
+pub mod NamesSeen
+pub mod Roster
+pub mod ItemLines
+pub mod RecordFaults
+pub mod RecordSteps
+pub mod Parsed
+pub mod RosterSeen
+pub mod ReaderSeen
+pub mod Checked

@@ -1,0 +1,5 @@
+pub mod SplitMix
+pub mod Starting
+pub mod Schedule
+pub mod Views
+pub mod Standing

@@ -1,0 +1,12 @@
+pub mod Short
+pub mod Alike
+pub mod Found
+pub mod Twice
+pub mod Parts
+pub mod Digest
+pub mod Faulty
+pub mod Grouping
+pub mod Going
+pub mod Ending
+pub mod Canonical
+pub mod Fronts

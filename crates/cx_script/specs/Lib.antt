@@ -1,0 +1,7 @@
+pub mod Earlier
+pub mod Faults
+pub mod Walk
+pub mod Script
+pub mod Numbered
+pub mod Laws
+pub mod WellFormed

@@ -1,0 +1,5 @@
+pub mod Table
+pub mod Lines
+pub mod Words
+pub mod Items
+pub mod Views

@@ -1,0 +1,6 @@
+use Rattle.std.proofs.Common.{arith}
+use Rattle.cx_turn.proofs.Keeps.{signalling}
+use Rattle.cx_turn.proofs.steps.hears.Goals as goal
+
+pub swap-requires : goal.swap-requires
+swap-requires g c = (c.requires.table.0, c.requires.table.1, signalling g.S.Machine.meaning g.S.Machine.fits g.M.Meaning _ _ _ _ c.args.word c.args.place.now.me.0 c.args.place.now.me.1 (λ _. 0) 0 0 c.requires.wake (λ n. omega arith))

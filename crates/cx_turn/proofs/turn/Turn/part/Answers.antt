@@ -1,0 +1,37 @@
+use Rattle.std.proofs.Common.{◌∙◌, ◌≡◌, ◌∷◌, [], None, refl, sym, ap, subst, arith}
+use Rattle.cx_turn.specs.declared.view.View.{View}
+use Rattle.cx_turn.specs.Views.{note_left, note_right, IsKnown}
+use Rattle.cx_turn.proofs.Histories.{head_is}
+use Rattle.cx_turn.proofs.Known.{known_rest, known_note, less_is}
+use Rattle.cx_turn.proofs.turn.Turn.part.Goals as goal
+
+pub into_seat-place-requires : goal.into_seat-place-requires
+into_seat-place-requires g c = (c.requires.note.0, ap (λ b. b.views) c.replace.ensures.value ∙ c.requires.note.1.views)
+
+pub returns-clause-rest : goal.returns-clause-rest
+returns-clause-rest g c v p =
+    let same : ◌≡◌ {A = View g.row.M.Denot} c.into_seat-place.result.me.0 v = head_is c.into_seat-place.result.me.0 v (sym c.into_seat-place.ensures.2 ∙ (ap (λ b. b.views) c.replace.ensures.value ∙ p.views)) in record {
+      table = c.into_badge.ensures.0 ∙ (c.note-other.ensures.left.0 ∙ (c.into_seat-place.ensures.0 ∙ (ap (λ b. b.table_id) c.replace.ensures.value ∙ p.table)));
+      views = c.into_badge.ensures.2 ∙ (ap (λ m. m.0 ∷ []) c.note-other.ensures.left.2 ∙ (ap (λ (x : View g.row.M.Denot). note_left x 0 c.args.share None ∷ []) same ∙ ap (λ (x : View g.row.M.Denot). x ∷ []) (less_is v c.args.share)));
+      live = p.live;
+      note = p.note;
+      idle = p.idle;
+      started = p.started;
+      seated = p.seated;
+      counted = record { counted = p.counted.counted; may = (let e = p.counted.may in omega arith); part = (let e = p.counted.part in omega arith) };
+      known = subst (IsKnown g.M.Meaning) (less_is v c.args.share) (known_rest g.M.Meaning v 0 c.args.share None tt p.known);
+    }
+
+pub returns-clause-part : goal.returns-clause-part
+returns-clause-part g c v p =
+    let same : ◌≡◌ {A = View g.row.M.Denot} c.into_seat-place.result.me.0 v = head_is c.into_seat-place.result.me.0 v (sym c.into_seat-place.ensures.2 ∙ (ap (λ b. b.views) c.replace.ensures.value ∙ p.views)) in record {
+      table = c.into_badge-2.ensures.0 ∙ (c.note-other.ensures.right.0 ∙ (c.into_seat-place.ensures.0 ∙ (ap (λ b. b.table_id) c.replace.ensures.value ∙ p.table)));
+      views = c.into_badge-2.ensures.2 ∙ (ap (λ m. m.0 ∷ []) c.note-other.ensures.right.1 ∙ ap (λ (x : View g.row.M.Denot). note_right x 0 c.args.share None ∷ []) same);
+      live = refl;
+      note = refl;
+      idle = refl;
+      started = p.started;
+      seated = p.seated;
+      counted = record { counted = p.counted.counted; may = refl; part = refl };
+      known = known_note g.M.Meaning v 0 c.args.share None (omega arith) (let e = p.counted.part in let q = c.requires.share in omega arith) tt p.known;
+    }

@@ -1,0 +1,11 @@
+pub mod Plain
+pub mod Opening
+pub mod Memory
+pub mod Tasks
+pub mod Fitting
+pub mod Items
+pub mod Machines
+pub mod Worlds
+pub mod Starts
+pub mod Scripts
+pub mod Runs

@@ -1,0 +1,4 @@
+pub mod Seeds
+pub mod Replays
+pub mod Completing
+pub mod Found

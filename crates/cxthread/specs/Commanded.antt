@@ -1,0 +1,51 @@
+-- What each status says, by the command that the words ask for.
+use Rattle.std.specs.Prelude.{◌≡◌, ℕ, List, Option, Some, None}
+use Rattle.cx_io.specs.Edge.{Rose}
+use Rattle.cxthread.specs.declared.command.Command.{Command}
+use Rattle.cxthread.specs.declared.command.Command.TheVariants as commands
+use Rattle.cxthread.specs.declared.status.Status.{Status}
+use Rattle.cxthread.specs.Top.{limit, IsReplayed, IsStuck, IsFaulty, Took, TookFront, TookWhatItCould, OfRead}
+use Rattle.cxthread.specs.Checks.{input_limit, IsFoundLegal, IsFoundIllegal, IsFoundFaulty, CompletesCheck, CompletesCheckFault}
+use Rattle.cxthread.specs.Complete.{CompletesReplay, CompletesFault}
+
+-- the replay ended, or the record is legal, and all was written
+abbrev pub SaysDone : Option Command → Option (List ℕ) → Option (List ℕ) → Option (List ℕ) → Type 0
+SaysDone None left before after = ⊥
+SaysDone (Some (commands.Replay seed)) left before after = OfRead limit left (IsReplayed seed) (Took before after)
+SaysDone (Some commands.Check) left before after = OfRead input_limit left IsFoundLegal (Took before after)
+
+-- a replay got stuck
+abbrev pub SaysStuck : Option Command → Option (List ℕ) → Option (List ℕ) → Option (List ℕ) → ℕ → ℕ → Type 0
+SaysStuck None left before after faults now = ⊥
+SaysStuck (Some (commands.Replay seed)) left before after faults now = OfRead limit left (IsStuck seed) (TookWhatItCould before after faults now)
+SaysStuck (Some commands.Check) left before after faults now = ⊥
+
+-- a record that is checked has a flaw
+abbrev pub SaysIllegal : Option Command → Option (List ℕ) → Option (List ℕ) → Option (List ℕ) → ℕ → ℕ → Type 0
+SaysIllegal None left before after faults now = ⊥
+SaysIllegal (Some (commands.Replay seed)) left before after faults now = ⊥
+SaysIllegal (Some commands.Check) left before after faults now = OfRead input_limit left IsFoundIllegal (TookWhatItCould before after faults now)
+
+-- the text has a fault
+abbrev pub SaysBadScenario : Option Command → Option (List ℕ) → Option (List ℕ) → Option (List ℕ) → ℕ → ℕ → Type 0
+SaysBadScenario None left before after faults now = ⊥
+SaysBadScenario (Some (commands.Replay seed)) left before after faults now = OfRead limit left IsFaulty (TookWhatItCould before after faults now)
+SaysBadScenario (Some commands.Check) left before after faults now = OfRead input_limit left IsFoundFaulty (TookWhatItCould before after faults now)
+
+-- the replay ended, or the record is legal, and not all was written
+abbrev pub SaysWriteFault : Option Command → Option (List ℕ) → Option (List ℕ) → Option (List ℕ) → ℕ → ℕ → Type 0
+SaysWriteFault None left before after faults now = ⊥
+SaysWriteFault (Some (commands.Replay seed)) left before after faults now = Rose faults now × OfRead limit left (IsReplayed seed) (TookFront before after)
+SaysWriteFault (Some commands.Check) left before after faults now = Rose faults now × OfRead input_limit left IsFoundLegal (TookFront before after)
+
+-- where no side fails, the status is that of the text's replay, or of its check
+abbrev pub Completes : Option Command → Option (List ℕ) → Status → Type 0
+Completes None left answer = Unit {0}
+Completes (Some (commands.Replay seed)) left answer = CompletesReplay seed left answer
+Completes (Some commands.Check) left answer = CompletesCheck left answer
+
+-- where reading doesn't fail, a text with a fault is a bad scenario
+abbrev pub CompletesOnFault : Option Command → Option (List ℕ) → Status → Type 0
+CompletesOnFault None left answer = Unit {0}
+CompletesOnFault (Some (commands.Replay seed)) left answer = CompletesFault left answer
+CompletesOnFault (Some commands.Check) left answer = CompletesCheckFault left answer

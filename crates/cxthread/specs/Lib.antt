@@ -1,0 +1,9 @@
+pub mod Words
+pub mod Asked
+pub mod FaultLine
+pub mod Top
+pub mod Answers
+pub mod Complete
+pub mod Checks
+pub mod Findings
+pub mod Commanded

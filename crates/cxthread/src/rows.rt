@@ -1,0 +1,528 @@
+/// A scenario in canonical text and what its replay without a seed records.
+#[derive(Clone, Copy)]
+pub struct Row {
+    pub scenario: &'static [u8],
+    pub record: &'static [u8],
+}
+
+/// One thread and a semaphore.
+pub const ONE_SEMAPHORE: Row = Row {
+    scenario: b"cxthread 1\n\
+      semaphore q 0 1\n\
+      main\n\
+      release q 1\n\
+      acquire q\n\
+      end\n",
+    record: b"record 1\n\
+      acts main\n\
+      + q 0 release 1\n\
+      = ok\n\
+      + q 1 acquire\n\
+      = ok\n\
+      end\n\
+      done\n",
+};
+
+/// No call at all.
+pub const NO_CALL: Row = Row {
+    scenario: b"cxthread 1\n\
+      main\n\
+      end\n",
+    record: b"record 1\n\
+      acts main\n\
+      end\n\
+      done\n",
+};
+
+/// Two threads take units of a semaphore and then a mutex.
+pub const TWO_THREADS: Row = Row {
+    scenario: b"cxthread 1\n\
+      thread a\n\
+      thread b\n\
+      semaphore q 0 2\n\
+      mutex m 0\n\
+      body a\n\
+      acquire q\n\
+      lock m\n\
+      unlock m\n\
+      end\n\
+      body b\n\
+      acquire q\n\
+      lock m\n\
+      unlock m\n\
+      end\n\
+      main\n\
+      start a\n\
+      start b\n\
+      release q 2\n\
+      join a\n\
+      join b\n\
+      end\n",
+    record: b"record 1\n\
+      acts main\n\
+      * start a ok\n\
+      = ok\n\
+      * start b ok\n\
+      = ok\n\
+      + q 0 release 2\n\
+      = ok\n\
+      * join a\n\
+      = ok\n\
+      * join b\n\
+      = ok\n\
+      end\n\
+      acts a\n\
+      + q 1 acquire\n\
+      = ok\n\
+      + m 0 lock\n\
+      = ok\n\
+      + m 1 unlock\n\
+      = ok\n\
+      end\n\
+      acts b\n\
+      + q 2 acquire\n\
+      = ok\n\
+      + m 2 lock\n\
+      = ok\n\
+      + m 3 unlock\n\
+      = ok\n\
+      end\n\
+      done\n",
+};
+
+/// A stop that is requested is seen.
+pub const STOP: Row = Row {
+    scenario: b"cxthread 1\n\
+      stop st main\n\
+      main\n\
+      request_stop st\n\
+      stop_requested st\n\
+      end\n",
+    record: b"record 1\n\
+      acts main\n\
+      + st 0 request\n\
+      ? st 1 drained\n\
+      = made\n\
+      ? st 1 stop_requested true\n\
+      = true\n\
+      end\n\
+      done\n",
+};
+
+/// A stop is requested once.
+pub const STOP_AGAIN: Row = Row {
+    scenario: b"cxthread 1\n\
+      stop st main\n\
+      main\n\
+      request_stop st\n\
+      request_stop st\n\
+      end\n",
+    record: b"record 1\n\
+      acts main\n\
+      + st 0 request\n\
+      ? st 1 drained\n\
+      = made\n\
+      ? st 1 already\n\
+      = already\n\
+      end\n\
+      done\n",
+};
+
+/// A callback that was registered runs at the request.
+pub const CALLBACK: Row = Row {
+    scenario: b"cxthread 1\n\
+      stop st main\n\
+      semaphore q 0 1\n\
+      callback k st release q 1\n\
+      main\n\
+      register k\n\
+      request_stop st\n\
+      deregister k\n\
+      end\n",
+    record: b"record 1\n\
+      acts main\n\
+      + st 0 register 0\n\
+      = queued\n\
+      + st 1 request\n\
+      + st 2 begin 0\n\
+      + q 0 release 1\n\
+      + st 3 finish 0\n\
+      ? st 4 drained\n\
+      = made\n\
+      + st 4 deregister 0 ran\n\
+      = ran\n\
+      end\n\
+      done\n",
+};
+
+/// A callback registered after the request runs at once.
+pub const CALLBACK_NOW: Row = Row {
+    scenario: b"cxthread 1\n\
+      stop st main\n\
+      semaphore q 0 1\n\
+      callback k st release q 1\n\
+      main\n\
+      request_stop st\n\
+      register k\n\
+      end\n",
+    record: b"record 1\n\
+      acts main\n\
+      + st 0 request\n\
+      ? st 1 drained\n\
+      = made\n\
+      + st 1 register_now 1\n\
+      + q 0 release 1\n\
+      + st 2 finish 1\n\
+      = ran\n\
+      end\n\
+      done\n",
+};
+
+/// A callback takes itself off while it runs.
+pub const CALLBACK_INSIDE: Row = Row {
+    scenario: b"cxthread 1\n\
+      stop st main\n\
+      callback k st deregister k\n\
+      main\n\
+      register k\n\
+      request_stop st\n\
+      deregister k\n\
+      end\n",
+    record: b"record 1\n\
+      acts main\n\
+      + st 0 register 0\n\
+      = queued\n\
+      + st 1 request\n\
+      + st 2 begin 0\n\
+      + st 3 deregister 0 inside\n\
+      + st 4 finish 0\n\
+      ? st 5 drained\n\
+      = made\n\
+      = not-held\n\
+      end\n\
+      done\n",
+};
+
+/// No callback is kept where no stop can come.
+pub const NO_SOURCE: Row = Row {
+    scenario: b"cxthread 1\n\
+      stop st main\n\
+      semaphore q 0 1\n\
+      callback k st release q 1\n\
+      main\n\
+      drop st\n\
+      stop_possible st\n\
+      register k\n\
+      end\n",
+    record: b"record 1\n\
+      acts main\n\
+      + st 0 drop\n\
+      = ok\n\
+      ? st 1 stop_possible false\n\
+      = false\n\
+      ? st 1 never 2\n\
+      = never\n\
+      end\n\
+      done\n",
+};
+
+/// A release beyond the greatest value changes nothing.
+pub const RELEASE_OVER: Row = Row {
+    scenario: b"cxthread 1\n\
+      semaphore q 0 2\n\
+      main\n\
+      release q 3\n\
+      release q 2\n\
+      end\n",
+    record: b"record 1\n\
+      acts main\n\
+      ? q 0 release 3 over\n\
+      = over\n\
+      + q 0 release 2\n\
+      = ok\n\
+      end\n\
+      done\n",
+};
+
+/// After an exception the next caller runs its own function.
+pub const ONCE: Row = Row {
+    scenario: b"cxthread 1\n\
+      thread a\n\
+      thread b\n\
+      thread c\n\
+      once o\n\
+      body a\n\
+      call_once o throw 7\n\
+      end\n\
+      body b\n\
+      call_once o return\n\
+      end\n\
+      body c\n\
+      call_once o return\n\
+      end\n\
+      main\n\
+      start a\n\
+      start b\n\
+      start c\n\
+      join a\n\
+      join b\n\
+      join c\n\
+      end\n",
+    record: b"record 1\n\
+      acts main\n\
+      * start a ok\n\
+      = ok\n\
+      * start b ok\n\
+      = ok\n\
+      * start c ok\n\
+      = ok\n\
+      * join a\n\
+      = ok\n\
+      * join b\n\
+      = ok\n\
+      * join c\n\
+      = ok\n\
+      end\n\
+      acts a\n\
+      + o 0 begin\n\
+      + o 1 fail 7\n\
+      = threw 7\n\
+      end\n\
+      acts b\n\
+      + o 2 begin\n\
+      + o 3 finish\n\
+      = returned\n\
+      end\n\
+      acts c\n\
+      ? o 4 passive\n\
+      = passive\n\
+      end\n\
+      done\n",
+};
+
+/// A thread that drops out is expected no more.
+pub const BARRIER: Row = Row {
+    scenario: b"cxthread 1\n\
+      thread a\n\
+      barrier b 2\n\
+      body a\n\
+      arrive_and_drop b\n\
+      end\n\
+      main\n\
+      start a\n\
+      arrive_and_wait b\n\
+      join a\n\
+      arrive_and_wait b\n\
+      end\n",
+    record: b"record 1\n\
+      acts main\n\
+      * start a ok\n\
+      = ok\n\
+      + b 0 arrive 1 0\n\
+      ? b 3 wait 0\n\
+      = ok\n\
+      * join a\n\
+      = ok\n\
+      + b 3 arrive 1 1\n\
+      + b 4 complete\n\
+      ? b 5 wait 1\n\
+      = ok\n\
+      end\n\
+      acts a\n\
+      + b 1 drop 0\n\
+      + b 2 complete\n\
+      = ok\n\
+      end\n\
+      done\n",
+};
+
+/// A promise that its owner leaves is broken.
+pub const BROKEN_PROMISE: Row = Row {
+    scenario: b"cxthread 1\n\
+      thread a\n\
+      promise p a main\n\
+      body a\n\
+      end\n\
+      main\n\
+      start a\n\
+      get_future p\n\
+      get_future p\n\
+      get p\n\
+      join a\n\
+      end\n",
+    record: b"record 1\n\
+      acts main\n\
+      * start a ok\n\
+      = ok\n\
+      = ok\n\
+      = future_already_retrieved\n\
+      ? p 1 ready broken_promise\n\
+      = broken_promise\n\
+      * join a\n\
+      = ok\n\
+      end\n\
+      acts a\n\
+      + p 0 set broken_promise\n\
+      end\n\
+      done\n",
+};
+
+/// A stop-aware wait that is stopped at the end of main.
+pub const STOPPED_WAIT: Row = Row {
+    scenario: b"cxthread 1\n\
+      jthread w\n\
+      mutex m 1\n\
+      condition c\n\
+      body w\n\
+      lock m\n\
+      wait_stop c m w 0 >= 1\n\
+      unlock m\n\
+      end\n\
+      main\n\
+      start w\n\
+      end\n",
+    record: b"record 1\n\
+      acts main\n\
+      * start w ok\n\
+      = ok\n\
+      + w 0 request\n\
+      ? w 1 drained\n\
+      * join w\n\
+      end\n\
+      acts w\n\
+      + m 0 lock\n\
+      = ok\n\
+      + w 1 register_now 4097\n\
+      + c 0 notify_all 0\n\
+      + w 2 finish 4097\n\
+      ? w 3 stop_requested true\n\
+      ? m 1 get 0 0\n\
+      = false\n\
+      + m 1 unlock\n\
+      = ok\n\
+      end\n\
+      done\n",
+};
+
+/// The replies of a mutex and its numbers.
+pub const NUMBERS: Row = Row {
+    scenario: b"cxthread 1\n\
+      mutex m 1\n\
+      main\n\
+      unlock m\n\
+      lock m\n\
+      lock m\n\
+      set m 0 9223372036854775807\n\
+      add m 0 1\n\
+      get m 0\n\
+      end\n",
+    record: b"record 1\n\
+      acts main\n\
+      = operation_not_permitted\n\
+      + m 0 lock\n\
+      = ok\n\
+      = resource_deadlock_would_occur\n\
+      + m 1 set 0 9223372036854775807\n\
+      = ok\n\
+      ? m 2 add 0 1 overflow\n\
+      = overflow\n\
+      ? m 2 get 0 9223372036854775807\n\
+      = 9223372036854775807\n\
+      + m 2 unlock\n\
+      end\n\
+      done\n",
+};
+
+/// What the replay of [`TWO_THREADS`] with the seed 0 records.
+pub const TWO_THREADS_SEEDED: &[u8] = b"record 1\n\
+  acts main\n\
+  * start a ok\n\
+  = ok\n\
+  * start b ok\n\
+  = ok\n\
+  + q 0 release 2\n\
+  = ok\n\
+  * join a\n\
+  = ok\n\
+  * join b\n\
+  = ok\n\
+  end\n\
+  acts a\n\
+  + q 2 acquire\n\
+  = ok\n\
+  + m 2 lock\n\
+  = ok\n\
+  + m 3 unlock\n\
+  = ok\n\
+  end\n\
+  acts b\n\
+  + q 1 acquire\n\
+  = ok\n\
+  + m 0 lock\n\
+  = ok\n\
+  + m 1 unlock\n\
+  = ok\n\
+  end\n\
+  done\n";
+
+/// Nobody releases what the thread waits for.
+pub const NOTHING_TO_ACQUIRE: Row = Row {
+    scenario: b"cxthread 1\n\
+      semaphore q 0 1\n\
+      main\n\
+      acquire q\n\
+      end\n",
+    record: b"record 1\n\
+      acts main\n\
+      end\n\
+      stuck main\n",
+};
+
+/// All rows whose replay ends.
+pub const ENDED: &[Row] = &[
+    ONE_SEMAPHORE,
+    NO_CALL,
+    TWO_THREADS,
+    STOP,
+    STOP_AGAIN,
+    CALLBACK,
+    CALLBACK_NOW,
+    CALLBACK_INSIDE,
+    NO_SOURCE,
+    RELEASE_OVER,
+    ONCE,
+    BARRIER,
+    BROKEN_PROMISE,
+    STOPPED_WAIT,
+    NUMBERS,
+];
+
+/// Texts that are no scenarios, and the line that is written of each.
+pub const FAULTY: &[(&[u8], &[u8])] = &[
+    (b"", b"fault 1 BadVersion\n"),
+    (
+        b"cxthread 1\nlatch l 1\nmain\ncount_down l 1\ncount_down l 1\nend\n",
+        b"fault 5 LatchOver\n",
+    ),
+    (b"cxthread 1\nthread A\nmain\nend\n", b"fault 2 BadWord\n"),
+    (
+        b"cxthread 1\nthread a\nthread a\nmain\nend\n",
+        b"fault 3 Twice\n",
+    ),
+    (
+        b"cxthread 1\nmutex m 9\nmain\nend\n",
+        b"fault 2 OutOfRange\n",
+    ),
+    (
+        b"cxthread 1\nmain\nacquire q\nend\n",
+        b"fault 3 UnknownName\n",
+    ),
+    (
+        b"cxthread 1\nsemaphore q 0 1\nmain\nlock q\nend\n",
+        b"fault 4 WrongKind\n",
+    ),
+    (
+        b"cxthread 1\nthread a\nmain\nstart a\nend\n",
+        b"fault 5 BadOrder\n",
+    ),
+];
