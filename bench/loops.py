@@ -20,9 +20,13 @@ MUTEX = r'''
 #include <cstdio>
 #include <cstdlib>
 #include <mutex>
+#include <thread>
 
 int main(int, char **words) {
     long turns = std::atol(words[1]);
+    // With a second thread in the process the library takes its locks by atomic steps.
+    std::thread other([] { std::this_thread::sleep_for(std::chrono::hours(1)); });
+    other.detach();
     std::mutex lock;
     volatile long counter = 0;
     auto begin = std::chrono::steady_clock::now();
@@ -33,6 +37,8 @@ int main(int, char **words) {
     }
     std::chrono::duration<double, std::nano> taken = std::chrono::steady_clock::now() - begin;
     std::printf("%f\n", taken.count() / turns);
+    std::fflush(stdout);
+    std::_Exit(0);
 }
 '''
 
