@@ -1,78 +1,106 @@
 #!/usr/bin/env python3
-"""Times the loops of proved calls beside libstdc++: an uncontended take, change and leave of a turn against an
-uncontended lock and unlock of std::mutex, the least of five runs of each in one go.
+"""Times the loops of proved calls beside the C++20 libraries and Rust's std, and prints a table.
 
-It needs the program that `rt ci`, or `rt run` in crates/cx_loops, leaves, and a C++ compiler. It reads nothing else and
-writes nothing but its table.
+  bench/loops.py [--runs N] [--only WORD]
+
+Ours is the program that `rt ci`, or `rt run` in crates/cx_loops, leaves. Beside it stand the same loops over libstdc++
+(g++), libc++ (clang++) and Rust's std (rustc), from bench/peers, each where its compiler is here. A figure is the least
+of N runs (5 if left out) in nanoseconds a round: a lock and unlock, a release and acquire, a count-down, a release there
+and back. The peers take turns, so that a busy moment meets all of them. Ratios are ours over the other. The last line is
+the processor time of a whole process in which a caller sleeps a second on a semaphore. It stands outside the gate, and
+nothing is proved of the times.
 """
 import os
+import resource
 import subprocess
 import sys
 import tempfile
 
-TOP = os.path.dirname(os.path.dirname(os.path.abspath(__file__)))
-LOOPS = os.path.join(TOP, 'crates', 'cx_loops', 'out', 'cx_loops')
-TURNS = 5_000_000
-RUNS = 5
-
-MUTEX = r'''
-#include <chrono>
-#include <cstdio>
-#include <cstdlib>
-#include <mutex>
-#include <thread>
-
-int main(int, char **words) {
-    long turns = std::atol(words[1]);
-    // With a second thread in the process the library takes its locks by atomic steps.
-    std::thread other([] { std::this_thread::sleep_for(std::chrono::hours(1)); });
-    other.detach();
-    std::mutex lock;
-    volatile long counter = 0;
-    auto begin = std::chrono::steady_clock::now();
-    for (long i = 0; i < turns; ++i) {
-        lock.lock();
-        counter = counter + 1;
-        lock.unlock();
-    }
-    std::chrono::duration<double, std::nano> taken = std::chrono::steady_clock::now() - begin;
-    std::printf("%f\n", taken.count() / turns);
-    std::fflush(stdout);
-    std::_Exit(0);
-}
-'''
-
-
-def least(run):
-    return min(run() for _ in range(RUNS))
+HERE = os.path.dirname(os.path.abspath(__file__))
+OURS = os.path.join(os.path.dirname(HERE), 'crates', 'cx_loops', 'out', 'cx_loops')
+PEERS = [
+    ('libstdc++', ['g++', '-O2', '-std=c++20', '-pthread'], 'loops.cpp'),
+    ('libc++', ['clang++', '-O2', '-std=c++20', '-stdlib=libc++', '-pthread'], 'loops.cpp'),
+    ('Rust std', ['rustc', '-O', '--edition', '2021'], 'loops.rs'),
+]
+SLEEP = 'semaphore_sleep'
 
 
 def output(words):
     done = subprocess.run(words, capture_output=True, check=False, text=True)
     if done.returncode != 0:
         sys.exit(f'{words[0]} ended with status {done.returncode}')
-    return done.stdout.split()
+    return done.stdout
 
 
-def turn_nanoseconds():
-    name, threads, calls, nanoseconds = output([LOOPS, 'turn_change', str(TURNS), '1'])
-    return float(nanoseconds) / float(calls)
+def build(folder):
+    """The peers whose compiler is here, each with its program."""
+    programs = []
+    for name, compiler, source in PEERS:
+        program = os.path.join(folder, name.replace(' ', '_'))
+        try:
+            subprocess.run(compiler + ['-o', program, os.path.join(HERE, 'peers', source)], check=True)
+            programs.append((name, program))
+        except (OSError, subprocess.CalledProcessError):
+            print(f'# {name}: not built', file=sys.stderr)
+    return programs
+
+
+def nanoseconds(program, loop, often, threads):
+    """Of one round, or None where the program hasn't the loop."""
+    _, _, calls, taken = output([program, loop, often, threads]).split()
+    return float(taken) / float(calls) if int(taken) else None
+
+
+def processor_milliseconds():
+    before = resource.getrusage(resource.RUSAGE_CHILDREN)
+    output([OURS, SLEEP, '1000', '2'])
+    after = resource.getrusage(resource.RUSAGE_CHILDREN)
+    return 1000 * (after.ru_utime - before.ru_utime + after.ru_stime - before.ru_stime)
+
+
+def least(programs, loop, often, threads, runs):
+    best = {}
+    for _ in range(runs):
+        for name, program in programs:
+            taken = nanoseconds(program, loop, often, threads)
+            if taken is not None:
+                best[name] = min(taken, best.get(name, taken))
+    return best
+
+
+def words(runs=5, only=''):
+    rest = sys.argv[1:]
+    while rest:
+        word, value, rest = rest[0], rest[1:2], rest[2:]
+        if word == '--runs' and value:
+            runs = int(value[0])
+        elif word == '--only' and value:
+            only = value[0]
+        else:
+            sys.exit(__doc__)
+    return runs, only
 
 
 def main():
-    if not os.path.exists(LOOPS):
+    runs, only = words()
+    if not os.path.exists(OURS):
         sys.exit('bench: crates/cx_loops/out/cx_loops is missing: run `rt ci`, or `rt run -- --list` in crates/cx_loops')
     with tempfile.TemporaryDirectory() as folder:
-        source = os.path.join(folder, 'mutex.cpp')
-        program = os.path.join(folder, 'mutex')
-        with open(source, 'w', encoding='ascii') as file:
-            file.write(MUTEX)
-        subprocess.run(['g++', '-O2', '-pthread', '-o', program, source], check=True)
-        ours = least(turn_nanoseconds)
-        theirs = least(lambda: float(output([program, str(TURNS)])[0]))
-    print('| Loop | ns a turn | libstdc++ std::mutex, ns | Ratio |')
-    print('|---|---|---|---|')
-    print(f'| take, change and leave of a turn | {ours:.1f} | {theirs:.1f} | {ours / theirs:.2f} |')
+        peers = build(folder)
+        names = [name for name, _ in peers]
+        print(f'# ns a round, least of {runs} runs; load {os.getloadavg()[0]:.1f} on {os.cpu_count()} processors')
+        print('| Loop | Threads | Ours | ' + ' | '.join(f'{n} | ratio' for n in names) + ' |')
+        print('|---|---|---|' + '---|---|' * len(names))
+        for line in output([OURS, '--list']).splitlines():
+            loop, often, threads, _ = line.split()
+            if only not in loop or loop == SLEEP:
+                continue
+            best = least([('Ours', OURS)] + peers, loop, often, threads, runs)
+            ours = best['Ours']
+            cells = [f'{best[n]:.1f} | {ours / best[n]:.2f}' if n in best else ' | ' for n in names]
+            print(f'| {loop} | {threads} | {ours:.1f} | ' + ' | '.join(cells) + ' |', flush=True)
+    print(f'# a caller sleeps a second: {min(processor_milliseconds() for _ in range(runs)):.1f} ms of processor time')
 
 
 if __name__ == '__main__':

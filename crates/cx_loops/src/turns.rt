@@ -6,10 +6,13 @@ ghost use Rattle.cx_turn.specs.declared.view.View.{View};
 ghost use Rattle.cx_turn.specs.Passes.{IsPassOf, IsPassWith};
 ghost use Rattle.cx_loops.specs.Turns.{Acts, IsRefused, Made, counting, means};
 
+use crate::taken::{Taken, Want, begin, made_since};
 use cx_machine::{Entry, Machine, Op, SemaphoreMachine, SemaphoreState};
 use cx_names::ThreadNo;
 use cx_turn::{Pass, Turn};
+use std::alloc::Global;
 use std::sync::Wait;
+use std::time::Clock;
 
 /// A semaphore behind a turn.
 pub type Gate = Turn<SemaphoreMachine, SemaphoreState>;
@@ -94,4 +97,15 @@ pub fn made_in<R: Wait>(rt: &R, gate: &Gate, pass: &mut Pass<SemaphoreMachine>, 
         }
     }
     n
+}
+
+/// One thread takes a turn `n` times, each time for one change.
+pub fn alone<R: Wait + Clock>(rt: &R, alloc: Global, n: u32) -> Result<Taken, Want>
+    requires { n ≤ 100000000 }
+{
+    let state = SemaphoreState::new(0, 1);
+    let (gate, mut pass) = Gate::new(alloc, state, 1, n)?;
+    let start = begin(rt)?;
+    let made = made_in(rt, &gate, &mut pass, n);
+    made_since(rt, start, made)
 }

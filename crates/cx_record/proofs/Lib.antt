@@ -7,3 +7,12 @@ pub mod ItemsFit
 pub mod Counts
 pub mod Meant
 pub mod Checkings
+pub mod FirstFault
+pub mod NamesKnown
+pub mod RowsBack
+pub mod FieldsHold
+pub mod ActWords
+pub mod ItemsBack
+pub mod RecordBack
+pub mod WholeBack
+pub mod TypesHold

@@ -8,3 +8,4 @@ pub mod Parsed
 pub mod RosterSeen
 pub mod ReaderSeen
 pub mod Checked
+pub mod Laws

@@ -9,3 +9,8 @@ pub mod Worlds
 pub mod Starts
 pub mod Scripts
 pub mod Runs
+pub mod Agendas
+pub mod Leading
+pub mod Going
+pub mod Known
+pub mod Ending

@@ -115,7 +115,7 @@ body_at f (n ∷ ns) (suc t) = body_at f ns t
 no_body : (s : Scene) (t : ℕ) → slice_get s.bodies t ≡ None → body_of s t ≡ []
 no_body s t e = rw e refl
 
-some_body : (s : Scene) (t : ℕ) (cs : List Call) → slice_get s.bodies t ≡ Some cs → body_of s t ≡ cs
+pub some_body : (s : Scene) (t : ℕ) (cs : List Call) → slice_get s.bodies t ≡ Some cs → body_of s t ≡ cs
 some_body s t cs e = rw e refl
 
 sized_body : (ls : List Filled) → Parts ls → (t : ℕ) → list_all is_sized_call (body_of (scene 1 ls) t) ≡ true

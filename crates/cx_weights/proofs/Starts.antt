@@ -31,7 +31,7 @@ no_levels t (d ∷ ds) = none_and_none (kept_at_start t d).levels (levels (map (
 
 -- one thread
 
-record Starts (s : Scene) (asked : ℕ → Bool) (l : Local) : Type 0 where
+pub record Starts (s : Scene) (asked : ℕ → Bool) (l : Local) : Type 0 where
   pub light : weight s asked l ≤ 400000
   pub sized : IsSized l
 
@@ -57,7 +57,7 @@ starts_body s asked t (c ∷ cs) small few h =
       sized = record { agenda = o.sizes; calls = h };
     }
 
-starts_small : (s : Scene) (asked : ℕ → Bool) (t : ℕ) → IsSmall s → Starts s asked (local_at_start s t)
+pub starts_small : (s : Scene) (asked : ℕ → Bool) (t : ℕ) → IsSmall s → Starts s asked (local_at_start s t)
 starts_small s asked t small = go (slice_get s.threads t) refl
   where
     of_body : Starts s asked (start_of_body s t)

@@ -1,3 +1,4 @@
 pub mod Weights
 pub mod World
 pub mod Laws
+pub mod Ends

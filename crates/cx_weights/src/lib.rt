@@ -1,6 +1,7 @@
 //! Every schedule ends: a number that falls with each item of a thread.
 #![tactic(auto)]
 
+ghost use Rattle.cx_weights.specs.Ends.{SoFarCanEnd};
 ghost use Rattle.cx_weights.specs.Laws.{EachItemWeighs, RequestedIsLighter, EachChangeSettles, EachLookIsTrue, EachStepWeighs, ScenarioIsLight, ScriptIsSmall, EveryScheduleEnds};
 
 /// Each item that is allowed where a thread stands makes what it may still do smaller.
@@ -41,4 +42,9 @@ pub fn script_is_small()
 /// Every schedule ends: a run of n items leaves at least n less to be done, and n is below 2^28.
 pub fn every_schedule_ends()
     ensures { EveryScheduleEnds }
+{}
+
+/// A list that the text of its thread allows so far is a prefix of one that it allows whole.
+pub fn so_far_can_end()
+    ensures { SoFarCanEnd }
 {}

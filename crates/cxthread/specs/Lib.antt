@@ -1,6 +1,7 @@
 pub mod Words
 pub mod Asked
 pub mod FaultLine
+pub mod Exit
 pub mod Top
 pub mod Answers
 pub mod Complete

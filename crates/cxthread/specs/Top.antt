@@ -9,6 +9,7 @@ use Rattle.cx_history.specs.Legal.{LegalRecord}
 use Rattle.cx_history.specs.Follows.{Follows, FollowsSoFar}
 use Rattle.cx_record.specs.Printed.{printed}
 use Rattle.cx_replay.specs.Schedule.{Replays}
+use Rattle.cx_replay.specs.Standing.{ListsCanEnd}
 use Rattle.cxthread.specs.FaultLine.{fault_line}
 
 -- how many bytes a scenario's text has at most
@@ -30,7 +31,8 @@ pub record Ends (s : Script) (seed : Option ℕ) (text : List ℕ) : Type 0 wher
   pub text_is : text ≡ printed s recorded []
 
 -- The replay of the scenario comes to where threads are live and none can go on; the record so far is legal and
--- follows the scenario as far as it goes, and the text is that of both, with the live threads.
+-- follows the scenario as far as it goes, each of its lists is a prefix of one that follows, and the text is that of
+-- both, with the live threads.
 pub record GetsStuck (s : Script) (seed : Option ℕ) (text : List ℕ) : Type 0 where
   pub recorded : Recorded
   pub live : List ℕ
@@ -38,6 +40,7 @@ pub record GetsStuck (s : Script) (seed : Option ℕ) (text : List ℕ) : Type 0
   pub ends : Replays (numbered s) seed (record { recorded = recorded; live = live })
   pub legal : LegalRecord (numbered s) recorded
   pub follows : FollowsSoFar (numbered s) recorded
+  pub can_end : ListsCanEnd (numbered s) recorded
   pub text_is : text ≡ printed s recorded live
 
 -- the bytes mean a scenario whose replay ends

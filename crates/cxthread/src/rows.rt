@@ -34,30 +34,33 @@ pub const NO_CALL: Row = Row {
       done\n",
 };
 
-/// Two threads take units of a semaphore and then a mutex.
+/// The text of a scenario in which two threads take units of a semaphore and then a mutex.
+pub const TWO_THREADS_TEXT: &[u8] = b"cxthread 1\n\
+  thread a\n\
+  thread b\n\
+  semaphore q 0 2\n\
+  mutex m 0\n\
+  body a\n\
+  acquire q\n\
+  lock m\n\
+  unlock m\n\
+  end\n\
+  body b\n\
+  acquire q\n\
+  lock m\n\
+  unlock m\n\
+  end\n\
+  main\n\
+  start a\n\
+  start b\n\
+  release q 2\n\
+  join a\n\
+  join b\n\
+  end\n";
+
+/// The scenario of [`TWO_THREADS_TEXT`].
 pub const TWO_THREADS: Row = Row {
-    scenario: b"cxthread 1\n\
-      thread a\n\
-      thread b\n\
-      semaphore q 0 2\n\
-      mutex m 0\n\
-      body a\n\
-      acquire q\n\
-      lock m\n\
-      unlock m\n\
-      end\n\
-      body b\n\
-      acquire q\n\
-      lock m\n\
-      unlock m\n\
-      end\n\
-      main\n\
-      start a\n\
-      start b\n\
-      release q 2\n\
-      join a\n\
-      join b\n\
-      end\n",
+    scenario: TWO_THREADS_TEXT,
     record: b"record 1\n\
       acts main\n\
       * start a ok\n\
@@ -525,4 +528,92 @@ pub const FAULTY: &[(&[u8], &[u8])] = &[
         b"cxthread 1\nthread a\nmain\nstart a\nend\n",
         b"fault 5 BadOrder\n",
     ),
+];
+
+/// A front of a text and its last line, and what is written of the text: as it stands, and with 121 blanks before the
+/// last line.
+#[derive(Clone, Copy)]
+pub struct Padded {
+    pub front: &'static [u8],
+    pub last: &'static [u8],
+    pub short: &'static [u8],
+    pub long: &'static [u8],
+}
+
+/// Lines with another fault that are too long as well.
+pub const PADDED: &[Padded] = &[
+    Padded {
+        front: b"",
+        last: b"cxthread 2\n",
+        short: b"fault 1 BadVersion\n",
+        long: b"fault 1 TooLong\n",
+    },
+    Padded {
+        front: b"cxthread 1\nlatch l 0\nmain\n",
+        last: b"count_down l 1\n",
+        short: b"fault 4 LatchOver\n",
+        long: b"fault 4 TooLong\n",
+    },
+    Padded {
+        front: b"cxthread 1\nstop st main\ncallback k st deregister k\nmain\n",
+        last: b"deregister k\n",
+        short: b"fault 5 BadOrder\n",
+        long: b"fault 5 TooLong\n",
+    },
+    Padded {
+        front: b"cxthread 1\nthread a\nmain\nstart a\n",
+        last: b"end\n",
+        short: b"fault 5 BadOrder\n",
+        long: b"fault 5 TooLong\n",
+    },
+];
+
+/// So many declarations of one form, each with a number in its name, the text behind them, and the line that is
+/// written of the whole.
+#[derive(Clone, Copy)]
+pub struct Crowd {
+    pub form: &'static [u8],
+    pub count: u32,
+    pub rest: &'static [u8],
+    pub line: &'static [u8],
+}
+
+/// Texts with one thread or one object too many, of several forms together.
+pub const CROWDS: &[Crowd] = &[
+    Crowd {
+        form: b"thread t",
+        count: 61,
+        rest: b"jthread j\nasync f async return 1\nasync g deferred return 1\nmain\nend\n",
+        line: b"fault 65 TooMany\n",
+    },
+    Crowd {
+        form: b"thread t",
+        count: 61,
+        rest: b"async f both throw 1\njthread j\nthread u\nmain\nend\n",
+        line: b"fault 65 TooMany\n",
+    },
+    Crowd {
+        form: b"thread t",
+        count: 62,
+        rest: b"async f async return 1\njthread j\nmain\nend\n",
+        line: b"fault 65 TooMany\n",
+    },
+    Crowd {
+        form: b"once o",
+        count: 127,
+        rest: b"jthread j\nmutex m 0\nmain\nend\n",
+        line: b"fault 130 TooMany\n",
+    },
+    Crowd {
+        form: b"once o",
+        count: 127,
+        rest: b"async f async return 1\njthread j\nmain\nend\n",
+        line: b"fault 130 TooMany\n",
+    },
+    Crowd {
+        form: b"once o",
+        count: 126,
+        rest: b"jthread j\nasync f async return 1\nasync g async return 1\nmain\nend\n",
+        line: b"fault 130 TooMany\n",
+    },
 ];

@@ -1,3 +1,6 @@
+ghost use Rattle.std.specs.Prelude.{◌≡◌};
+ghost use Rattle.cxthread.specs.Exit.{exit_number};
+
 /// How the program ends.
 #[derive(Clone, Copy, Debug, PartialEq, Eq)]
 pub enum Status {
@@ -21,7 +24,9 @@ pub enum Status {
 
 impl Status {
     /// The exit status of the process. 6 isn't used.
-    pub fn number(self) -> u8 {
+    pub fn number(self) -> u8
+        ensures number { result ≡ exit_number self }
+    {
         match self {
             Status::Done => 0,
             Status::Illegal => 1,

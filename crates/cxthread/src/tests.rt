@@ -1,7 +1,8 @@
 use crate::checking::check_call;
-use crate::forged::FORGED;
+use crate::forged::{FORGED, TIES};
 use crate::rows::{
-    ENDED, FAULTY, NOTHING_TO_ACQUIRE, ONE_SEMAPHORE, TWO_THREADS, TWO_THREADS_SEEDED,
+    CROWDS, ENDED, FAULTY, NOTHING_TO_ACQUIRE, ONE_SEMAPHORE, PADDED, TWO_THREADS,
+    TWO_THREADS_SEEDED,
 };
 use crate::status::Status;
 use crate::top::{cxthread, replay_call};
@@ -54,20 +55,52 @@ fn checks(
     Ok(status == wanted && sink.bytes() == line)
 }
 
-/// Adds the changes of a recursive mutex at these positions, each with what follows its position.
-fn put_changes(
+/// Whether the program, asked with these words, ends with this status, having written this line of this text.
+fn answers(
+    alloc: Global,
+    words: &[&str],
+    text: Vec<u8>,
+    wanted: Status,
+    line: &[u8],
+) -> Result<bool, Fail> {
+    let mut source = SureBytes::new(text, 100);
+    let mut sink = SureBuffer::new(Vec::new(alloc), 100);
+    let words = owned(alloc, words)?;
+    let status = cxthread(alloc, &words, &mut source, &mut sink);
+    Ok(status == wanted && sink.bytes() == line)
+}
+
+/// Adds a piece of text for each of these numbers, with what stands before the number and what follows it.
+fn put_numbered(
     alloc: Global,
     out: &mut Vec<u8>,
-    positions: Range<u32>,
+    front: &[u8],
+    numbers: Range<u32>,
     tail: &[u8],
 ) -> Result<(), NoMemory> {
-    for position in positions {
-        let digits = position.to_string(alloc)?;
-        out.extend_from_slice(b"+ r ")?;
+    for number in numbers {
+        let digits = number.to_string(alloc)?;
+        out.extend_from_slice(front)?;
         out.extend_from_slice(digits.as_bytes())?;
         out.extend_from_slice(tail)?;
     }
     Ok(())
+}
+
+/// The first line of a scenario and so many declarations of one form.
+fn declared(alloc: Global, form: &[u8], count: u32) -> Result<Vec<u8>, NoMemory> {
+    let mut text = b"cxthread 1\n".to_vec(alloc)?;
+    put_numbered(alloc, &mut text, form, 0..count, b"\n")?;
+    Ok(text)
+}
+
+/// These parts one after the other.
+fn joined(alloc: Global, parts: &[&[u8]]) -> Result<Vec<u8>, NoMemory> {
+    let mut text = Vec::new(alloc);
+    for part in parts {
+        text.extend_from_slice(part)?;
+    }
+    Ok(text)
 }
 
 #[test]
@@ -84,14 +117,11 @@ fn words_of_no_form_are_refused(rt: HostRuntime) -> Result<(), Fail> {
         &["replay", "18446744073709551616"],
         &["replay", "000000000000000000001"],
         &["replay", "1", "2"],
+        &["check", "1"],
         &["--help"],
     ] {
-        let mut source = SureBytes::new(ONE_SEMAPHORE.scenario.to_vec(alloc)?, 100);
-        let mut sink = SureBuffer::new(Vec::new(alloc), 100);
-        let words = owned(alloc, words)?;
-        let status = cxthread(alloc, &words, &mut source, &mut sink);
-        assert_eq!(rt; status, Status::BadWords);
-        assert_eq!(rt; sink.bytes(), USAGE);
+        let text = ONE_SEMAPHORE.scenario.to_vec(alloc)?;
+        assert!(rt; answers(alloc, words, text, Status::BadWords, USAGE)?);
     }
     Ok(())
 }
@@ -145,7 +175,7 @@ fn worked_rows_are_replayed(rt: HostRuntime) -> Result<(), Fail> {
     for (text, line) in FAULTY {
         assert!(rt; replays(alloc, None, text, Status::BadScenario, b"", line)?);
     }
-    let loose = b"cxthread 1\n# x\nmain\n end";
+    let loose = b"cxthread 1\r\n# x\r\nmain\r\n end";
     let canonical = b"cxthread 1\nmain\nend\n";
     let record = b"record 1\nacts main\nend\ndone\n";
     assert!(rt; replays(alloc, None, loose, Status::Done, canonical, record)?);
@@ -161,7 +191,82 @@ fn records_are_checked(rt: HostRuntime) -> Result<(), Fail> {
     for forged in FORGED {
         assert!(rt; checks(alloc, forged.text, b"", forged.status, forged.written)?);
     }
+    for tie in TIES {
+        let text = joined(alloc, tie.parts)?;
+        assert!(rt; checks(alloc, &text, b"", Status::Illegal, tie.written)?);
+    }
     Ok(())
+}
+
+#[test]
+fn check_is_a_word(rt: HostRuntime) -> Result<(), Fail> {
+    let alloc = rt.alloc();
+    let check: &[&str] = &["check"];
+    let row = ONE_SEMAPHORE;
+    let text = joined(alloc, &[row.scenario, row.record])?;
+    assert!(rt; answers(alloc, check, text, Status::Done, b"legal\n")?);
+    for forged in FORGED {
+        let text = forged.text.to_vec(alloc)?;
+        assert!(rt; answers(alloc, check, text, forged.status, forged.written)?);
+    }
+    Ok(())
+}
+
+#[test]
+fn a_line_is_too_long_before_all_else(rt: HostRuntime) -> Result<(), Fail> {
+    let alloc = rt.alloc();
+    let blanks = vec![in alloc; b' '; 121]?;
+    for row in PADDED {
+        let text = joined(alloc, &[row.front, row.last])?;
+        assert!(rt; replays(alloc, None, &text, Status::BadScenario, b"", row.short)?);
+        let text = joined(alloc, &[row.front, &blanks, row.last])?;
+        assert!(rt; replays(alloc, None, &text, Status::BadScenario, b"", row.long)?);
+    }
+    let mut text = declared(alloc, b"once o", 128)?;
+    text.extend_from_slice(&blanks)?;
+    text.extend_from_slice(b"mutex m 0\nmain\nend\n")?;
+    let line = b"fault 130 TooLong\n";
+    assert!(rt; replays(alloc, None, &text, Status::BadScenario, b"", line)?);
+    Ok(())
+}
+
+#[test]
+fn as_many_as_the_limits_allow(rt: HostRuntime) -> Result<(), Fail> {
+    let alloc = rt.alloc();
+    let mut scenario = declared(alloc, b"thread t", 61)?;
+    scenario.extend_from_slice(b"jthread j\nasync f async return 1\n")?;
+    put_numbered(alloc, &mut scenario, b"body t", 0..61, b"\nend\n")?;
+    scenario.extend_from_slice(b"body j\nend\nmain\nend\n")?;
+    let mut record = b"record 1\nacts main\nend\n".to_vec(alloc)?;
+    put_numbered(alloc, &mut record, b"unstarted t", 0..61, b"\n")?;
+    record.extend_from_slice(b"unstarted j\nunstarted f\ndone\n")?;
+    assert!(rt; replays(alloc, None, &scenario, Status::Done, &scenario, &record)?);
+    let mut scenario = declared(alloc, b"once o", 127)?;
+    scenario.extend_from_slice(b"jthread j\nbody j\nend\nmain\nend\n")?;
+    let record = b"record 1\nacts main\nend\nunstarted j\ndone\n";
+    assert!(rt; replays(alloc, None, &scenario, Status::Done, &scenario, record)?);
+    for row in CROWDS {
+        let mut text = declared(alloc, row.form, row.count)?;
+        text.extend_from_slice(row.rest)?;
+        assert!(rt; replays(alloc, None, &text, Status::BadScenario, b"", row.line)?);
+    }
+    Ok(())
+}
+
+#[test]
+fn each_status_has_its_number(rt: HostRuntime) {
+    for (status, number) in [
+        (Status::Done, 0),
+        (Status::Illegal, 1),
+        (Status::BadWords, 2),
+        (Status::BadScenario, 3),
+        (Status::ReadFault, 4),
+        (Status::WriteFault, 5),
+        (Status::Stuck, 7),
+        (Status::NoMemory, 8),
+    ] {
+        assert_eq!(rt; status.number(), number);
+    }
 }
 
 #[test]
@@ -173,9 +278,9 @@ fn a_recursive_mutex_has_its_levels(rt: HostRuntime) -> Result<(), Fail> {
     }
     scenario.extend_from_slice(b"end\n")?;
     let mut record = b"record 1\nacts main\n".to_vec(alloc)?;
-    put_changes(alloc, &mut record, 0..1_000, b" lock\n= ok\n")?;
+    put_numbered(alloc, &mut record, b"+ r ", 0..1_000, b" lock\n= ok\n")?;
     record.extend_from_slice(b"? r 1000 lock max-levels\n= max-levels\n")?;
-    put_changes(alloc, &mut record, 1_000..2_000, b" unlock\n")?;
+    put_numbered(alloc, &mut record, b"+ r ", 1_000..2_000, b" unlock\n")?;
     record.extend_from_slice(b"end\ndone\n")?;
     assert!(rt; replays(alloc, None, &scenario, Status::Done, &scenario, &record)?);
     Ok(())

@@ -196,6 +196,7 @@ pub fn cxthread<R: Source, K: Sink>(
 ) -> Status
     ensures bad_words { (result ≡ Status.BadWords) ↔ (command_of (map string_bytes words.now) ≡ None) }
     ensures bad_words_write { result ≡ Status.BadWords → TookWhatItCould (K.taken sink.old) (K.taken sink.new) (K.faults sink.old) (K.faults sink.new) usage }
+    ensures bad_words_read { result ≡ Status.BadWords → (R.left source.new ≡ R.left source.old) × (R.faults source.new ≡ R.faults source.old) }
     ensures done { result ≡ Status.Done → SaysDone (command_of (map string_bytes words.now)) (R.left source.old) (K.taken sink.old) (K.taken sink.new) }
     ensures stuck { result ≡ Status.Stuck → SaysStuck (command_of (map string_bytes words.now)) (R.left source.old) (K.taken sink.old) (K.taken sink.new) (K.faults sink.old) (K.faults sink.new) }
     ensures illegal { result ≡ Status.Illegal → SaysIllegal (command_of (map string_bytes words.now)) (R.left source.old) (K.taken sink.old) (K.taken sink.new) (K.faults sink.old) (K.faults sink.new) }

@@ -1,0 +1,167 @@
+-- What an attempt under a turn makes of a pass.
+use Rattle.std.proofs.Common.{◌≡◌, ℕ, ℤ, ◌<◌, ◌≤◌, List, [], length, Option, Some, None, IfSome, IsTrue, true, false, refl, sym, ap, ◌∙◌, subst, arith}
+use mathlib.Core.List.{IsPrefix}
+use Rattle.cx_names.specs.declared.ThreadNo.{ThreadNo}
+use Rattle.cx_names.specs.declared.Reply.{Reply}
+use Rattle.cx_machine.specs.declared.kind.Op.{Op}
+use Rattle.cx_machine.specs.declared.kind.Entry.{Entry}
+use Rattle.cx_machine.specs.declared.kind.Look.{Look}
+use Rattle.cx_machine.specs.declared.machine.Meaning.{Ghosts}
+use Rattle.cx_machine.specs.Meaning.{run, change, look_of, IsShut, ShowsNone}
+use Rattle.cx_turn.specs.declared.view.View.{View}
+use Rattle.cx_turn.specs.declared.turn.Turn.{Turn}
+use Rattle.cx_turn.specs.declared.pass.Pass.{Pass}
+use Rattle.cx_turn.specs.declared.held.Held.{Held}
+use Rattle.cx_turn.specs.Views.{IsNow, with_change, with_look, entered, outside}
+use Rattle.cx_turn.specs.Passes.{IsPassWith, IsLeft, Enters, IsHeld, CanPay}
+use Rattle.cx_turn.specs.Lending.{with_hand, with_state}
+use Rattle.cx_turn.proofs.Calls.{left_of}
+use Rattle.cx_turn.proofs.Histories.{prefix_trans, prefix_refl, some_is}
+use Rattle.cx_cell.specs.declared.queued.Queued.{Queued}
+use Rattle.cx_cell.specs.declared.wish.Wish.{Wish}
+use Rattle.cx_cell.specs.declared.wish.Done.{Done}
+use Rattle.cx_cell.specs.declared.wish.Done.TheVariants.{Made, Seen}
+use Rattle.cx_cell.specs.Queue.{inner}
+use Rattle.cx_cell.specs.Acts.{seen, Sees, Makes, Looks, Finds, Denies, Pays, Does}
+
+module _ {M S H : Type 0} (meaning : S → M) (K : Ghosts M) where
+  -- a write beside the state leaves what the taker holds
+  pub held_on : (h : Held M (Queued S) H) (hand : Option H) (x : Queued S) → x.state ≡ h.state.state → IsHeld (inner meaning) K h → IsHeld (inner meaning) K (with_state (with_hand h hand) x)
+  held_on h hand x same held = record {
+    table = held.table;
+    words = held.words;
+    out = held.out;
+    started = held.started;
+    seated = held.seated;
+    numbered = held.numbered;
+    splits = held.splits;
+    counted = held.counted;
+    known = held.known;
+    now = subst (λ (s : S). IsNow K h.place.me.0 h.place.me.0.front (meaning s)) (sym same) held.now;
+  }
+
+  module _ (t : Turn M (Queued S) H) (p p' : Pass M) (h h' : Held M (Queued S) H) (v : View M) (is : IsPassWith (inner meaning) K t p v) (enters : Enters (inner meaning) K t p h) (held : IsHeld (inner meaning) K h) where
+    same_number : h.number.0 ≡ p.number.0
+    same_number = sym held.numbered ∙ (ap (λ (x : View M). x.number) (enters v is).0 ∙ is.numbered)
+
+    -- the taker is who the pass is
+    pub taker : h.number ≡ p.number
+    taker = λ i. record { 0 = same_number i }
+
+    -- its number is below 256
+    pub low_number : h.top.now ≡ t.board.shared → t.board.shared.key.seats ≤ 256 → h.number.0 < 256
+    low_number top few = let a = held.known.below held.out.2 in let b = held.seated in let d = held.numbered in let e = ap (λ x. x.key.seats) top in omega arith
+
+    start_leads : (now : M) → run K.step (Some h.place.me.0.start) h.place.me.0.front ≡ Some now → run K.step (Some v.start) h.place.me.0.front ≡ Some now
+    start_leads now leads = subst (λ (m : M). run K.step (Some m) h.place.me.0.front ≡ Some now) (ap (λ (x : View M). x.start) (enters v is).0) leads
+
+    pub made : (e : Entry) (n : ℕ) (now after : M) → IsLeft (inner meaning) K h' p' → h'.top.now ≡ t.board.shared → h'.place.me.0 ≡ with_change K h.place.me.0 e now after → run K.step (Some h.place.me.0.start) h.place.me.0.front ≡ Some now
+        → K.step now e ≡ Some after → K.picks now e → n ≡ length h.place.me.0.front → (w : View M) × IsPassWith (inner meaning) K t p' w × Makes K v w e n
+    made e n now after left top view leads enabled picked position =
+        let f = h.place.me.0.front in (
+          outside h'.place.me.0,
+          left_of (inner meaning) K t h' p' top left,
+          record {
+            found = f;
+            now = now;
+            after = after;
+            later = (enters v is).1;
+            position = position;
+            leads = start_leads now leads;
+            enabled = enabled;
+            picked = picked;
+            view = ap (λ (x : View M). outside x) view ∙ (ap (λ (x : View M). outside (with_change K x e now after)) (enters v is).0 ∙ (λ i. record (with_change K (seen v f) e now after) { inside = sym is.idle i }));
+          },
+        )
+
+    pub looked : (l : Look) (now : M) → IsLeft (inner meaning) K h' p' → h'.top.now ≡ t.board.shared → h'.place.me.0 ≡ with_look h.place.me.0 l → run K.step (Some h.place.me.0.start) h.place.me.0.front ≡ Some now → IsTrue (K.shows now l)
+        → l.at ≡ length h.place.me.0.front → (w : View M) × IsPassWith (inner meaning) K t p' w × Looks K v w l
+    looked l now left top view leads shown stamp =
+        let f = h.place.me.0.front in
+        let front : h'.place.me.0.front ≡ f = ap (λ (x : View M). x.front) view in (
+          outside h'.place.me.0,
+          left_of (inner meaning) K t h' p' top left,
+          record {
+            now = now;
+            later = subst (λ g. IsPrefix v.front g) (sym front) (enters v is).1;
+            stamp = stamp ∙ ap (λ (g : List Entry). length g) (sym front);
+            leads = subst (λ g. run K.step (Some v.start) g ≡ Some now) (sym front) (start_leads now leads);
+            shown = shown;
+            view = ap (λ (x : View M). outside x) view ∙ (ap (λ (x : View M). outside (with_look x l)) (enters v is).0 ∙ ((λ i. record (with_look (seen v f) l) { inside = sym is.idle i }) ∙ ap (λ g. with_look (seen v g) l) (sym front)));
+          },
+        )
+
+    pub found : (P : M → Type 0) (now : M) → IsLeft (inner meaning) K h' p' → h'.top.now ≡ t.board.shared → h'.place.me.0 ≡ h.place.me.0 → run K.step (Some h.place.me.0.start) h.place.me.0.front ≡ Some now → P now
+        → (w : View M) × IsPassWith (inner meaning) K t p' w × Finds K P v w
+    found P now left top view leads holds =
+        let f = h.place.me.0.front in
+        let front : h'.place.me.0.front ≡ f = ap (λ (x : View M). x.front) view in (
+          outside h'.place.me.0,
+          left_of (inner meaning) K t h' p' top left,
+          record {
+            now = now;
+            later = subst (λ g. IsPrefix v.front g) (sym front) (enters v is).1;
+            leads = subst (λ g. run K.step (Some v.start) g ≡ Some now) (sym front) (start_leads now leads);
+            holds = holds;
+            view = ap (λ (x : View M). outside x) view ∙ (ap (λ (x : View M). outside x) (enters v is).0 ∙ ((λ i. record (seen v f) { inside = sym is.idle i }) ∙ ap (λ g. seen v g) (sym front)));
+          },
+        )
+
+    -- what the pass can pay, the taker can
+    pub pays_on : (e : Entry) (now after : M) → CanPay K v e now after → CanPay K h.place.me.0 e now after
+    pays_on e now after can = subst (λ (x : View M). CanPay K x e now after) (sym (enters v is).0) record { paid = can.paid; shared = can.shared; has = can.has }
+
+module _ {M : Type 0} where
+  pub sees_self : (v : View M) → Sees v v
+  sees_self v = record { later = prefix_refl v.front; same = refl }
+
+module _ {M : Type 0} (K : Ghosts M) where
+  -- who saw more, and then nothing, has seen more
+  pub finds_on : (P : M → Type 0) (v u w : View M) → Sees v u → Finds K P u w → Sees v w
+  finds_on P v u w s f = record {
+    later = prefix_trans v.front u.front w.front s.later f.later;
+    same = f.view ∙ ap (λ (x : View M). seen x w.front) s.same;
+  }
+
+  -- what was done by who had seen more
+  pub does_on : (by : ThreadNo) (wish : Wish) (v u w : View M) (d : Done) → Sees v u → Does K by wish u w d → Does K by wish v w d
+  does_on by wish v u w d s is = at u.front s.later (subst (λ (x : View M). Does K by wish x w d) s.same is)
+    where
+      at : (f : List Entry) → IsPrefix v.front f → Does K by wish (seen v f) w d → Does K by wish v w d
+      at f p = by_cases d
+        where
+          by_cases : (d' : Done) → Does K by wish (seen v f) w d' → Does K by wish v w d'
+          by_cases (Made op r n) (e, m) = (e, record { found = m.found; now = m.now; after = m.after; later = prefix_trans v.front f m.found p m.later; position = m.position; leads = m.leads; enabled = m.enabled; picked = m.picked; view = m.view })
+          by_cases (Seen op r k) (e, l) = (e, record { now = l.now; later = prefix_trans v.front f w.front p l.later; stamp = l.stamp; leads = l.leads; shown = l.shown; view = l.view })
+
+  -- who had seen more can pay as much
+  pub pays_seen : (by : ThreadNo) (op : Op) (a b : ℤ) (v u : View M) → Sees v u → Pays K by op a b v → Pays K by op a b u
+  pays_seen by op a b v u s pays = subst (λ (x : View M). Pays K by op a b x) (sym s.same) (λ now after r enabled. let can = pays now after r enabled in record { paid = can.paid; shared = can.shared; has = can.has })
+
+  pub finds_map : (P Q : M → Type 0) (v w : View M) → ((m : M) → P m → Q m) → Finds K P v w → Finds K Q v w
+  finds_map P Q v w f is = record { now = is.now; later = is.later; leads = is.leads; holds = f is.now is.holds; view = is.view }
+
+  module _ (by : ThreadNo) (wish : Wish) (op : Op) (a b : ℤ) (ea : wish.a ≡ a) (eb : wish.b ≡ b) where
+    pub pays_wish : (Q : View M → Type 0) → wish.change ≡ Some op → ((v : View M) → Q v → Pays K by op a b v) → IfSome wish.change (λ o. (v : View M) → Q v → Pays K by o wish.a wish.b v)
+    pays_wish Q is pays = subst (λ x. IfSome x (λ o. (v : View M) → Q v → Pays K by o wish.a wish.b v)) (sym is) (λ v q. subst (λ (z : ℤ × ℤ). Pays K by op z.0 z.1 v) (λ i. (sym ea i, sym eb i)) (pays v q))
+
+    pub makes_wish : (o : Op) (v w : View M) (r : Reply) (n : ℕ) → wish.change ≡ Some op → wish.change ≡ Some o → Makes K v w (change by o wish.a wish.b r) n → Makes K v w (change by op a b r) n
+    makes_wish o v w r n is is' = subst (λ (x : Entry). Makes K v w x n) (λ i. change by (some_is o op (sym is' ∙ is) i) (ea i) (eb i) r)
+
+    pub looks_wish : (o : Op) (v w : View M) (r : Reply) (k : ℕ) → wish.look ≡ Some op → wish.look ≡ Some o → Looks K v w (look_of by o wish.a wish.b r k) → Looks K v w (look_of by op a b r k)
+    looks_wish o v w r k is is' = subst (λ (x : Look). Looks K v w x) (λ i. look_of by (some_is o op (sym is' ∙ is) i) (ea i) (eb i) r k)
+
+    pub shut_wish : wish.change ≡ Some op → (m : M) → Denies K by wish m → IsShut K.step m by op a b
+    shut_wish is m d = subst (λ (z : ℤ × ℤ). IsShut K.step m by op z.0 z.1) (λ i. (ea i, eb i)) (subst (λ x. IfSome x (λ o. IsShut K.step m by o wish.a wish.b)) is d.shut)
+
+    pub dark_wish : wish.look ≡ Some op → (m : M) → Denies K by wish m → ShowsNone K.shows m by op a b
+    dark_wish is m d = subst (λ (z : ℤ × ℤ). ShowsNone K.shows m by op z.0 z.1) (λ i. (ea i, eb i)) (subst (λ x. IfSome x (λ o. ShowsNone K.shows m by o wish.a wish.b)) is d.dark)
+
+-- what is so of an option's value
+pub if_some_map : {A : Type 0} (P Q : A → Type 0) (o : Option A) → ((x : A) → P x → Q x) → IfSome o P → IfSome o Q
+if_some_map P Q None f is = tt
+if_some_map P Q (Some x) f is = f x is
+
+-- a pass that saw more is who it was
+pub same_pass : {S M H : Type 0} (meaning : S → M) (K : Ghosts M) (t : Turn M (Queued S) H) (p q : Pass M) (v u : View M) → IsPassWith (inner meaning) K t p v → IsPassWith (inner meaning) K t q u → Sees v u → q.number ≡ p.number
+same_pass {S} {M} meaning K t p q v u is is' s = let e : q.number.0 ≡ p.number.0 = sym is'.numbered ∙ (ap (λ (x : View M). x.number) s.same ∙ is.numbered) in λ i. record { 0 = e i }

@@ -1,0 +1,158 @@
+//! One attempt under the turn.
+ghost use Rattle.std.specs.Prelude.{◌≡◌, ◌<◌, ◌≤◌, ℕ, Some, None, IfSome};
+ghost use Rattle.cx_machine.specs.declared.kind.Entry.{Entry};
+ghost use Rattle.cx_machine.specs.Meaning.{change};
+ghost use Rattle.cx_turn.specs.declared.view.View.{View};
+ghost use Rattle.cx_cell.specs.Acts.{Attempts, Does, Pays};
+ghost use Rattle.cx_cell.specs.Cells.{IsCellPass, IsCellPassWith};
+
+use crate::called::Called;
+use crate::cell::Cell;
+use crate::offer::{Offer, offered};
+use crate::queued::{put_off, settle};
+use crate::wish::{Done, Wish};
+use cx_machine::{Entry, Machine, Meaning, Op};
+use cx_names::{Reply, ThreadNo};
+use cx_turn::Pass;
+use std::hint;
+use std::sync::Wait;
+
+// How often a caller tries before it enters the queue and sleeps.
+const TRIES: u32 = 7;
+
+// Lets a short while pass, which doubles with each try.
+fn pause(tries: u32) {
+    for _ in 0..1u32 << tries.min(TRIES) {
+        hint::spin_loop();
+    }
+}
+
+// What was done, whether the caller is in the queue, and who is to be woken.
+#[derive(Clone, Copy)]
+pub(crate) struct Attempt {
+    done: Option<Done>,
+    queued: bool,
+    called: Called,
+}
+
+fn entry(by: ThreadNo, op: Op, wish: &Wish, reply: Reply) -> Entry
+    ensures { result ≡ change by op wish.now.a wish.now.b reply }
+{
+    Entry {
+        by,
+        op,
+        a: wish.a,
+        b: wish.b,
+        reply,
+    }
+}
+
+impl<M: Meaning, S: Machine<M>> Cell<M, S> {
+    // Does what is wished for if the state allows it. Else the caller waits in the queue, if it is to.
+    fn attempt<R: Wait>(&self, rt: &R, pass: &mut Pass<M>, wish: &Wish, waits: bool) -> Attempt
+        requires pass { IsCellPass S.meaning M.Meaning self.now pass.old }
+        requires pays { IfSome wish.now.change (λ op. (v : View M) → IsCellPassWith S.meaning M.Meaning self.now pass.old v → Pays M.Meaning pass.old.number op wish.now.a wish.now.b v) }
+        requires ready { IfSome wish.now.change (λ op. (s : S) (e : Entry) → S.ready s None e) }
+        ensures { (v : View M) → IsCellPassWith S.meaning M.Meaning self.now pass.old v → (w : View M) × IsCellPassWith S.meaning M.Meaning self.now pass.new w × Attempts M.Meaning pass.old.number wish.now v w result.done }
+    {
+        let mut called = Called::nobody();
+        let mut held = self.turn.take(rt, pass);
+        let by = held.number();
+        match offered::<M, S>(&held.state().state, by, wish) {
+            Offer::Change(op, reply) => {
+                let at = held.change(entry(by, op, wish, reply));
+                *held.hand() = None;
+                settle::<M, S>(held.state_mut(), by, &mut called);
+                held.leave();
+                Attempt {
+                    done: Some(Done::Made(op, reply, at)),
+                    queued: false,
+                    called,
+                }
+            }
+            Offer::Look(op, reply) => {
+                let at = held.look(op, wish.a, wish.b, reply);
+                settle::<M, S>(held.state_mut(), by, &mut called);
+                held.leave();
+                Attempt {
+                    done: Some(Done::Seen(op, reply, at)),
+                    queued: false,
+                    called,
+                }
+            }
+            Offer::Nothing => {
+                let queued = put_off::<M, S>(held.state_mut(), by, wish, waits, &mut called);
+                held.leave();
+                Attempt {
+                    done: None,
+                    queued,
+                    called,
+                }
+            }
+        }
+    }
+
+    // Wakes those who are to be woken.
+    fn rouse(&self, pass: &mut Pass<M>, called: &Called)
+        requires { IsCellPass S.meaning M.Meaning self.now pass.old }
+        ensures { (v : View M) → IsCellPassWith S.meaning M.Meaning self.now pass.old v → IsCellPassWith S.meaning M.Meaning self.now pass.new v }
+    {
+        if called.is_empty() {
+            return;
+        }
+        for seat in 0..self.turn.seats() {
+            if called.has(seat) {
+                self.turn.wake(pass, ThreadNo(seat));
+            }
+        }
+    }
+
+    // An attempt, after which those are woken whose wishes the state allows now.
+    pub(crate) fn act<R: Wait>(
+        &self,
+        rt: &R,
+        pass: &mut Pass<M>,
+        wish: &Wish,
+        waits: bool,
+    ) -> (Option<Done>, bool)
+        requires pass { IsCellPass S.meaning M.Meaning self.now pass.old }
+        requires pays { IfSome wish.now.change (λ op. (v : View M) → IsCellPassWith S.meaning M.Meaning self.now pass.old v → Pays M.Meaning pass.old.number op wish.now.a wish.now.b v) }
+        requires ready { IfSome wish.now.change (λ op. (s : S) (e : Entry) → S.ready s None e) }
+        ensures { (v : View M) → IsCellPassWith S.meaning M.Meaning self.now pass.old v → (w : View M) × IsCellPassWith S.meaning M.Meaning self.now pass.new w × Attempts M.Meaning pass.old.number wish.now v w result.0 }
+    {
+        let attempt = self.attempt(rt, pass, wish, waits);
+        self.rouse(pass, &attempt.called);
+        (attempt.done, attempt.queued)
+    }
+
+    // Sleeps until the caller is woken, if it is in the queue, and gives how often it tried since.
+    fn rest<R: Wait>(&self, rt: &R, pass: &mut Pass<M>, queued: bool, tries: u32) -> u32
+        requires { IsCellPass S.meaning M.Meaning self.now pass.old }
+        ensures { (v : View M) → IsCellPassWith S.meaning M.Meaning self.now pass.old v → IsCellPassWith S.meaning M.Meaning self.now pass.new v }
+    {
+        if queued {
+            self.turn.sleep(rt, pass);
+            return 0;
+        }
+        pause(tries);
+        tries.saturating_add(1)
+    }
+
+    // Waits until what is wished for is done.
+    pub(crate) fn fulfil<R: Wait>(&self, rt: &R, pass: &mut Pass<M>, wish: &Wish) -> Done
+        requires pass { IsCellPass S.meaning M.Meaning self.now pass.old }
+        requires pays { IfSome wish.now.change (λ op. (v : View M) → IsCellPassWith S.meaning M.Meaning self.now pass.old v → Pays M.Meaning pass.old.number op wish.now.a wish.now.b v) }
+        requires ready { IfSome wish.now.change (λ op. (s : S) (e : Entry) → S.ready s None e) }
+        ensures { (v : View M) → IsCellPassWith S.meaning M.Meaning self.now pass.old v → (w : View M) × IsCellPassWith S.meaning M.Meaning self.now pass.new w × Does M.Meaning pass.old.number wish.now v w result }
+    {
+        let mut tries = 0;
+        for _ in rt.forever() {
+            let (done, queued) = self.act(rt, pass, wish, tries >= TRIES);
+            if let Some(done) = done {
+                return done;
+            }
+            tries = self.rest(rt, pass, queued, tries);
+        }
+        unreachable!()
+    }
+}

@@ -1,0 +1,22 @@
+//! Cells: a machine's state and a queue of sleeping callers, behind one turn.
+//!
+//! - `Cell`: the state with its queue. A call on it makes a change or a look as soon as, or if, the
+//!   state allows it.
+//! - `Either`: what a call did that could do two things.
+//! - `Queued`: a state with its queue, which is a machine with the same meaning.
+//! - `Wish`, `Waiter`: what a caller waits for, and a caller in the queue.
+#![tactic(auto)]
+
+mod attempt;
+mod called;
+mod calls;
+mod cell;
+mod offer;
+mod queued;
+#[cfg(test)]
+mod tests;
+mod wish;
+
+pub use cell::Cell;
+pub use queued::Queued;
+pub use wish::{Done, Either, Waiter, Wish};

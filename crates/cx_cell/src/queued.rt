@@ -1,0 +1,177 @@
+//! A state with the queue of those who wait for it.
+ghost use Rattle.std.specs.Prelude.{◌≡◌, ◌<◌, ◌≤◌, ◌+◌, ℕ, length, slice_get, Some, None, IfSome, true, false, vec_len, IsTrue, Contains};
+ghost use Rattle.cx_cell.specs.Acts.{Denies};
+ghost use Rattle.cx_cell.specs.Queue.{IsMarked, AreMarked, StandsIn};
+ghost use Rattle.cx_cell.specs.declared.wish.Waiter.{Waiter};
+
+use crate::called::Called;
+use crate::offer::{Offer, offered};
+use crate::wish::{Waiter, Wish};
+use cx_machine::{Entry, Machine, Meaning, Op};
+use cx_names::{NoMemory, Reply, ThreadNo};
+
+/// A state, and beside it the queue of sleeping callers. It means what the state means.
+#[derive(Drop)]
+pub struct Queued<S> {
+    pub state: S,
+    pub queue: Vec<Waiter>,
+}
+
+// A state that is not reached by more callers than this has room for all.
+pub(crate) const CALLERS: u32 = 256;
+
+impl<M: Meaning, S: Machine<M>> Machine<M> for Queued<S> {
+    ghost use Rattle.cx_cell.specs.Queue.{HasRoom};
+
+    type Hand = S::Hand;
+
+    ghost meaning = { λ q. S.meaning q.state };
+
+    ghost spare = { λ q. S.spare q.state };
+
+    ghost fits = { λ q. AreMarked M.Meaning (S.meaning q.state) q.queue.items × HasRoom M.Meaning (S.meaning q.state) (S.spare q.state) };
+
+    ghost ready = { λ q h e. S.ready q.state h e };
+
+    ghost moves = { λ q h e r k. S.moves q.state h e r.state k };
+
+    ghost alike = { λ q r. S.alike q.state r.state };
+
+    fn reply(&self, by: ThreadNo, op: Op, a: i64, b: i64) -> Option<Reply> {
+        self.state.reply(by, op, a, b)
+    }
+
+    fn show(&self, by: ThreadNo, op: Op, a: i64, b: i64) -> Option<Reply> {
+        self.state.show(by, op, a, b)
+    }
+
+    fn make(&mut self, e: &Entry, hand: &mut Option<S::Hand>) {
+        self.state.make(e, hand);
+    }
+
+    fn reserve(&mut self, n: u32) -> Result<(), NoMemory> {
+        self.state.reserve(n)
+    }
+
+    fn most(&self, seats: u32) -> u32 {
+        self.state.most(seats)
+    }
+
+    fn pool(&self) -> u32 {
+        self.state.pool()
+    }
+
+    fn debt(&self) -> u32 {
+        self.state.debt()
+    }
+
+    ghost lives_on = { S.lives_on };
+
+    ghost most_stays = { S.most_stays };
+
+    ghost most_holds = { S.most_holds };
+
+    ghost once_each = { λ q. S.once_each q.state };
+}
+
+// Marks a waiter that isn't marked yet where the state allows its wish, and notes that it is to be
+// woken.
+fn mark_one<M: Meaning, S: Machine<M>>(state: &S, waiter: &mut Waiter, called: &mut Called)
+    ensures marked { IsMarked M.Meaning (S.meaning state.now) waiter.new }
+    ensures same { (waiter.new.seat ≡ waiter.old.seat) × (waiter.new.wish ≡ waiter.old.wish) }
+    ensures alone { waiter.old.woken ≡ false → waiter.new.woken ≡ true → Denies M.Meaning waiter.old.seat waiter.old.wish (S.meaning state.now) → ⊥ }
+{
+    if waiter.woken {
+        return;
+    }
+    match offered::<M, S>(state, waiter.seat, &waiter.wish) {
+        Offer::Nothing => {}
+        _ => {
+            waiter.woken = true;
+            called.add(waiter.seat);
+        }
+    }
+}
+
+// Marks each waiter whose wish the state allows.
+fn mark<M: Meaning, S: Machine<M>>(state: &S, queue: &mut [Waiter], called: &mut Called)
+    ensures { AreMarked M.Meaning (S.meaning state.now) queue.new }
+{
+    for i in 0..queue.len() {
+        mark_one::<M, S>(state, &mut queue[i], called);
+    }
+}
+
+// Where the caller of this number stands in the queue.
+fn place_of(queue: &[Waiter], seat: ThreadNo) -> Option<usize>
+    ensures { IfSome result (λ i. i < length queue.now) }
+{
+    for i in 0..queue.len() {
+        if queue[i].seat == seat {
+            return Some(i);
+        }
+    }
+    None
+}
+
+// The caller of this number as it stands in the queue.
+pub(crate) fn waiter_of(queue: &[Waiter], seat: ThreadNo) -> Option<Waiter>
+    ensures { IfSome result (λ w. (w.seat ≡ seat) × StandsIn queue.now w) }
+{
+    for i in 0..queue.len() {
+        if queue[i].seat == seat {
+            return Some(queue[i]);
+        }
+    }
+    None
+}
+
+// The caller of this number waits no more, and all others whose wish the state allows are marked.
+pub(crate) fn settle<M: Meaning, S: Machine<M>>(
+    queued: &mut Queued<S>,
+    seat: ThreadNo,
+    called: &mut Called,
+)
+    ensures state { queued.new.state ≡ queued.old.state }
+    ensures marked { AreMarked M.Meaning (S.meaning queued.new.state) queued.new.queue.items }
+{
+    if let Some(i) = place_of(&queued.queue, seat) {
+        queued.queue.remove(i);
+    }
+    mark::<M, S>(&queued.state, &mut queued.queue, called);
+}
+
+// Puts the caller into the queue, where it isn't marked. False where there is no memory for it.
+fn enter(queue: &mut Vec<Waiter>, seat: ThreadNo, wish: &Wish) -> bool
+    ensures { result ≡ true → Contains queue.new.items (record { seat = seat; wish = wish.now; woken = false }) }
+{
+    let waiter = Waiter {
+        seat,
+        wish: *wish,
+        woken: false,
+    };
+    match place_of(queue, seat) {
+        Some(i) => {
+            queue[i] = waiter;
+            true
+        }
+        None => queue.push(waiter).is_ok(),
+    }
+}
+
+// The caller finds that the state denies its wish, and waits in the queue if it is to. Says whether it
+// does.
+pub(crate) fn put_off<M: Meaning, S: Machine<M>>(
+    queued: &mut Queued<S>,
+    seat: ThreadNo,
+    wish: &Wish,
+    waits: bool,
+    called: &mut Called,
+) -> bool
+    ensures state { queued.new.state ≡ queued.old.state }
+    ensures marked { AreMarked M.Meaning (S.meaning queued.new.state) queued.new.queue.items }
+{
+    let queued_up = waits && enter(&mut queued.queue, seat, wish);
+    mark::<M, S>(&queued.state, &mut queued.queue, called);
+    queued_up
+}

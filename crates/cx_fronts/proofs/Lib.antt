@@ -1,0 +1,9 @@
+pub mod Lists
+pub mod Heart
+pub mod Grown
+pub mod Logged
+pub mod Right
+pub mod Promised
+pub mod Mained
+pub mod Counted
+pub mod Shown

@@ -1,0 +1,9 @@
+pub mod Positions
+pub mod Paths
+pub mod Growing
+pub mod Logs
+pub mod Promises
+pub mod Runs
+pub mod Mains
+pub mod Counts
+pub mod Example

@@ -1,0 +1,10 @@
+//! Threads that are started by a spawner and joined once.
+//!
+//! - [`Thread`] is a thread with its number; [`Thread::start`] starts it, and [`Thread::join`] waits for its end.
+#![tactic(auto)]
+
+#[cfg(test)]
+mod tests;
+mod thread;
+
+pub use thread::Thread;

@@ -1,0 +1,7 @@
+pub mod Kinds
+pub mod Owners
+pub mod Mutexes
+pub mod Recursives
+pub mod Fronts
+pub mod Together
+pub mod Trying

@@ -1,0 +1,10 @@
+//! Semaphores and latches, each on a cell.
+#![tactic(auto)]
+
+mod latch;
+mod semaphore;
+#[cfg(test)]
+mod tests;
+
+pub use latch::{Latch, LatchPass};
+pub use semaphore::{Over, Semaphore, SemaphorePass, Taking};
