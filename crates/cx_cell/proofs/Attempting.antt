@@ -26,7 +26,7 @@ use Rattle.cx_cell.specs.Acts.{seen, Sees, Makes, Looks, Finds, Denies, Pays, Do
 
 module _ {M S H : Type 0} (meaning : S → M) (K : Ghosts M) where
   -- a write beside the state leaves what the taker holds
-  pub held_on : (h : Held M (Queued S) H) (hand : Option H) (x : Queued S) → x.state ≡ h.state.state → IsHeld (inner meaning) K h → IsHeld (inner meaning) K (with_state (with_hand h hand) x)
+  pub held_on : (h : Held M (Queued S) H) (hand : Option H) (x : Queued S) → x.kept.value.state ≡ h.state.kept.value.state → IsHeld (inner meaning) K h → IsHeld (inner meaning) K (with_state (with_hand h hand) x)
   held_on h hand x same held = record {
     table = held.table;
     words = held.words;

@@ -30,4 +30,4 @@ module _ {M : Type 0} (K : Ghosts M) where
 
 -- what the state in the queue's care means
 abbrev pub inner : {S M : Type 0} → (S → M) → Queued S → M
-inner meaning q = meaning q.state
+inner meaning q = meaning q.kept.value.state

@@ -27,14 +27,6 @@ fn pause(tries: u32) {
     }
 }
 
-// What was done, whether the caller is in the queue, and who is to be woken.
-#[derive(Clone, Copy)]
-pub(crate) struct Attempt {
-    done: Option<Done>,
-    queued: bool,
-    called: Called,
-}
-
 fn entry(by: ThreadNo, op: Op, wish: &Wish, reply: Reply) -> Entry
     ensures { result ≡ change by op wish.now.a wish.now.b reply }
 {
@@ -49,45 +41,40 @@ fn entry(by: ThreadNo, op: Op, wish: &Wish, reply: Reply) -> Entry
 
 impl<M: Meaning, S: Machine<M>> Cell<M, S> {
     // Does what is wished for if the state allows it. Else the caller waits in the queue, if it is to.
-    fn attempt<R: Wait>(&self, rt: &R, pass: &mut Pass<M>, wish: &Wish, waits: bool) -> Attempt
+    // Gives what was done and whether the caller is in the queue, and notes who is to be woken.
+    fn attempt<R: Wait>(
+        &self,
+        rt: &R,
+        pass: &mut Pass<M>,
+        wish: &Wish,
+        waits: bool,
+        called: &mut Called,
+    ) -> (Option<Done>, bool)
         requires pass { IsCellPass S.meaning M.Meaning self.now pass.old }
         requires pays { IfSome wish.now.change (λ op. (v : View M) → IsCellPassWith S.meaning M.Meaning self.now pass.old v → Pays M.Meaning pass.old.number op wish.now.a wish.now.b v) }
         requires ready { IfSome wish.now.change (λ op. (s : S) (e : Entry) → S.ready s None e) }
-        ensures { (v : View M) → IsCellPassWith S.meaning M.Meaning self.now pass.old v → (w : View M) × IsCellPassWith S.meaning M.Meaning self.now pass.new w × Attempts M.Meaning pass.old.number wish.now v w result.done }
+        ensures { (v : View M) → IsCellPassWith S.meaning M.Meaning self.now pass.old v → (w : View M) × IsCellPassWith S.meaning M.Meaning self.now pass.new w × Attempts M.Meaning pass.old.number wish.now v w result.0 }
     {
-        let mut called = Called::nobody();
         let mut held = self.turn.take(rt, pass);
         let by = held.number();
-        match offered::<M, S>(&held.state().state, by, wish) {
+        match offered::<M, S>(&held.state().kept.state, by, wish) {
             Offer::Change(op, reply) => {
                 let at = held.change(entry(by, op, wish, reply));
                 *held.hand() = None;
-                settle::<M, S>(held.state_mut(), by, &mut called);
+                settle::<M, S>(held.state_mut(), by, called);
                 held.leave();
-                Attempt {
-                    done: Some(Done::Made(op, reply, at)),
-                    queued: false,
-                    called,
-                }
+                (Some(Done::Made(op, reply, at)), false)
             }
             Offer::Look(op, reply) => {
                 let at = held.look(op, wish.a, wish.b, reply);
-                settle::<M, S>(held.state_mut(), by, &mut called);
+                settle::<M, S>(held.state_mut(), by, called);
                 held.leave();
-                Attempt {
-                    done: Some(Done::Seen(op, reply, at)),
-                    queued: false,
-                    called,
-                }
+                (Some(Done::Seen(op, reply, at)), false)
             }
             Offer::Nothing => {
-                let queued = put_off::<M, S>(held.state_mut(), by, wish, waits, &mut called);
+                let queued = put_off::<M, S>(held.state_mut(), by, wish, waits, called);
                 held.leave();
-                Attempt {
-                    done: None,
-                    queued,
-                    called,
-                }
+                (None, queued)
             }
         }
     }
@@ -120,9 +107,10 @@ impl<M: Meaning, S: Machine<M>> Cell<M, S> {
         requires ready { IfSome wish.now.change (λ op. (s : S) (e : Entry) → S.ready s None e) }
         ensures { (v : View M) → IsCellPassWith S.meaning M.Meaning self.now pass.old v → (w : View M) × IsCellPassWith S.meaning M.Meaning self.now pass.new w × Attempts M.Meaning pass.old.number wish.now v w result.0 }
     {
-        let attempt = self.attempt(rt, pass, wish, waits);
-        self.rouse(pass, &attempt.called);
-        (attempt.done, attempt.queued)
+        let mut called = Called::nobody();
+        let outcome = self.attempt(rt, pass, wish, waits, &mut called);
+        self.rouse(pass, &called);
+        outcome
     }
 
     // Sleeps until the caller is woken, if it is in the queue, and gives how often it tried since.

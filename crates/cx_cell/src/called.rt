@@ -22,7 +22,8 @@ impl Called {
     }
 
     pub(crate) fn is_empty(&self) -> bool {
-        self.bits == [0; WORDS]
+        let [a, b, c, d] = self.bits;
+        a | b | c | d == 0
     }
 
     pub(crate) fn has(&self, seat: u32) -> bool {

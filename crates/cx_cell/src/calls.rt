@@ -164,7 +164,7 @@ impl<M: Meaning, S: Machine<M>> Cell<M, S> {
         ensures marked { (v : View M) → IsCellPassWith S.meaning M.Meaning self.now pass.old v → (w : View M) × IsCellPassWith S.meaning M.Meaning self.now pass.new w × Finds M.Meaning (λ m. IfSome result (IsMarked M.Meaning m)) v w }
     {
         let held = self.turn.take(rt, pass);
-        let found = waiter_of(&held.state().queue, seat);
+        let found = waiter_of(&held.state().kept.queue, seat);
         held.leave();
         found
     }

@@ -1,5 +1,5 @@
 //! The cell.
-use crate::queued::{CALLERS, Queued};
+use crate::queued::{CALLERS, Kept, Queued};
 use cx_machine::{Machine, Meaning};
 use cx_names::NoMemory;
 use cx_turn::{Pass, Turn};
@@ -38,15 +38,14 @@ impl<M: Meaning, S: Machine<M>> Cell<M, S> {
         let room = value.most(CALLERS);
         value.reserve(room)?;
         let queue = Vec::with_capacity(alloc, seats as usize)?;
-        let (turn, pass) = Turn::new(
+        let kept = Box::new(
             alloc,
-            Queued {
+            Kept {
                 state: value,
                 queue,
             },
-            seats,
-            calls,
         )?;
+        let (turn, pass) = Turn::new(alloc, Queued { kept }, seats, calls)?;
         Ok((Cell { turn }, pass))
     }
 
@@ -102,7 +101,8 @@ impl<M: Meaning, S: Machine<M>> Cell<M, S> {
         ensures { (v : View M) → IsCellPassWith S.meaning M.Meaning self pass v → IsNow M.Meaning v v.front (S.meaning result) }
     {
         let Cell { turn } = self;
-        let Queued { state, queue: _ } = turn.close(pass);
+        let Queued { kept } = turn.close(pass);
+        let Kept { state, queue: _ } = Box::into_inner(kept);
         state
     }
 }

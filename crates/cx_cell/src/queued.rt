@@ -10,11 +10,19 @@ use crate::wish::{Waiter, Wish};
 use cx_machine::{Entry, Machine, Meaning, Op};
 use cx_names::{NoMemory, Reply, ThreadNo};
 
-/// A state, and beside it the queue of sleeping callers. It means what the state means.
+/// A state, and beside it the queue of sleeping callers.
 #[derive(Drop)]
-pub struct Queued<S> {
+pub struct Kept<S> {
     pub state: S,
     pub queue: Vec<Waiter>,
+}
+
+/// A state with its queue. It means what the state means.
+///
+/// Both stand behind one pointer, so that whoever takes or leaves the turn moves no more than that.
+#[derive(Drop)]
+pub struct Queued<S> {
+    pub kept: Box<Kept<S>>,
 }
 
 // A state that is not reached by more callers than this has room for all.
@@ -25,44 +33,44 @@ impl<M: Meaning, S: Machine<M>> Machine<M> for Queued<S> {
 
     type Hand = S::Hand;
 
-    ghost meaning = { λ q. S.meaning q.state };
+    ghost meaning = { λ q. S.meaning q.kept.value.state };
 
-    ghost spare = { λ q. S.spare q.state };
+    ghost spare = { λ q. S.spare q.kept.value.state };
 
-    ghost fits = { λ q. AreMarked M.Meaning (S.meaning q.state) q.queue.items × HasRoom M.Meaning (S.meaning q.state) (S.spare q.state) };
+    ghost fits = { λ q. AreMarked M.Meaning (S.meaning q.kept.value.state) q.kept.value.queue.items × HasRoom M.Meaning (S.meaning q.kept.value.state) (S.spare q.kept.value.state) };
 
-    ghost ready = { λ q h e. S.ready q.state h e };
+    ghost ready = { λ q h e. S.ready q.kept.value.state h e };
 
-    ghost moves = { λ q h e r k. S.moves q.state h e r.state k };
+    ghost moves = { λ q h e r k. S.moves q.kept.value.state h e r.kept.value.state k };
 
-    ghost alike = { λ q r. S.alike q.state r.state };
+    ghost alike = { λ q r. S.alike q.kept.value.state r.kept.value.state };
 
     fn reply(&self, by: ThreadNo, op: Op, a: i64, b: i64) -> Option<Reply> {
-        self.state.reply(by, op, a, b)
+        self.kept.state.reply(by, op, a, b)
     }
 
     fn show(&self, by: ThreadNo, op: Op, a: i64, b: i64) -> Option<Reply> {
-        self.state.show(by, op, a, b)
+        self.kept.state.show(by, op, a, b)
     }
 
     fn make(&mut self, e: &Entry, hand: &mut Option<S::Hand>) {
-        self.state.make(e, hand);
+        self.kept.state.make(e, hand);
     }
 
     fn reserve(&mut self, n: u32) -> Result<(), NoMemory> {
-        self.state.reserve(n)
+        self.kept.state.reserve(n)
     }
 
     fn most(&self, seats: u32) -> u32 {
-        self.state.most(seats)
+        self.kept.state.most(seats)
     }
 
     fn pool(&self) -> u32 {
-        self.state.pool()
+        self.kept.state.pool()
     }
 
     fn debt(&self) -> u32 {
-        self.state.debt()
+        self.kept.state.debt()
     }
 
     ghost lives_on = { S.lives_on };
@@ -71,7 +79,7 @@ impl<M: Meaning, S: Machine<M>> Machine<M> for Queued<S> {
 
     ghost most_holds = { S.most_holds };
 
-    ghost once_each = { λ q. S.once_each q.state };
+    ghost once_each = { λ q. S.once_each q.kept.value.state };
 }
 
 // Marks a waiter that isn't marked yet where the state allows its wish, and notes that it is to be
@@ -132,13 +140,14 @@ pub(crate) fn settle<M: Meaning, S: Machine<M>>(
     seat: ThreadNo,
     called: &mut Called,
 )
-    ensures state { queued.new.state ≡ queued.old.state }
-    ensures marked { AreMarked M.Meaning (S.meaning queued.new.state) queued.new.queue.items }
+    ensures state { queued.new.kept.value.state ≡ queued.old.kept.value.state }
+    ensures marked { AreMarked M.Meaning (S.meaning queued.new.kept.value.state) queued.new.kept.value.queue.items }
 {
-    if let Some(i) = place_of(&queued.queue, seat) {
-        queued.queue.remove(i);
+    let kept = &mut *queued.kept;
+    if let Some(i) = place_of(&kept.queue, seat) {
+        kept.queue.remove(i);
     }
-    mark::<M, S>(&queued.state, &mut queued.queue, called);
+    mark::<M, S>(&kept.state, &mut kept.queue, called);
 }
 
 // Puts the caller into the queue, where it isn't marked. False where there is no memory for it.
@@ -168,10 +177,11 @@ pub(crate) fn put_off<M: Meaning, S: Machine<M>>(
     waits: bool,
     called: &mut Called,
 ) -> bool
-    ensures state { queued.new.state ≡ queued.old.state }
-    ensures marked { AreMarked M.Meaning (S.meaning queued.new.state) queued.new.queue.items }
+    ensures state { queued.new.kept.value.state ≡ queued.old.kept.value.state }
+    ensures marked { AreMarked M.Meaning (S.meaning queued.new.kept.value.state) queued.new.kept.value.queue.items }
 {
-    let queued_up = waits && enter(&mut queued.queue, seat, wish);
-    mark::<M, S>(&queued.state, &mut queued.queue, called);
+    let kept = &mut *queued.kept;
+    let queued_up = waits && enter(&mut kept.queue, seat, wish);
+    mark::<M, S>(&kept.state, &mut kept.queue, called);
     queued_up
 }

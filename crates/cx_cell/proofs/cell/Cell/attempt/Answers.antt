@@ -23,7 +23,7 @@ change-at-requires-clause-room g c after enabled =
     let m = g.S.Machine.meaning in
     let low = low_number m g.M.Meaning t c.args.pass.now c.args.pass.now h h p.0 p.1 k.known k.held k.top t.few in
     let by : c.entry.result.by.0 ≡ h.number.0 = ap (λ (x : Entry). x.by.0) c.entry.ensures ∙ ap (λ (x : ThreadNo). x.0) c.number-by.ensures in
-    room_for g.M.Meaning g.met.S.Machine.most_holds (m h.state.state) after c.entry.result (g.S.Machine.spare h.state.state) k.fits.1 (omega arith) enabled
+    room_for g.M.Meaning g.met.S.Machine.most_holds (m h.state.kept.value.state) after c.entry.result (g.S.Machine.spare h.state.kept.value.state) k.fits.1 (omega arith) enabled
 
 pub change-at-requires-clause-pays : goal.change-at-requires-clause-pays
 change-at-requires-clause-pays g c after enabled =
@@ -34,18 +34,18 @@ change-at-requires-clause-pays g c after enabled =
     let number : c.number-by.result ≡ c.args.pass.now.number = c.number-by.ensures ∙ taker m g.M.Meaning t c.args.pass.now c.args.pass.now h h p.0 p.1 k.known k.held in
     let e : c.entry.result ≡ change c.args.pass.now.number op w.a w.b r = c.entry.ensures ∙ (λ i. change (number i) op w.a w.b r) in
     let pays : (v : View g.row.M.Denot) → IsCellPassWith m g.M.Meaning c.args.self.now c.args.pass.now v → Pays g.M.Meaning c.args.pass.now.number op w.a w.b v = subst (λ x. IfSome x (λ (o : Op). (v : View g.row.M.Denot) → IsCellPassWith m g.M.Meaning c.args.self.now c.args.pass.now v → Pays g.M.Meaning c.args.pass.now.number o w.a w.b v)) c.in-Change.ensures.0 c.requires.pays in
-    let can = pays p.0 p.1 (m h.state.state) after r (ap (λ (x : Entry). g.M.Meaning.step (m h.state.state) x) (sym e) ∙ enabled) in
-    subst (λ (x : Entry). CanPay g.M.Meaning h.place.me.0 x (m h.state.state) after) (sym e) (pays_on m g.M.Meaning t c.args.pass.now c.args.pass.now h h p.0 p.1 k.known k.held (change c.args.pass.now.number op w.a w.b r) (m h.state.state) after can)
+    let can = pays p.0 p.1 (m h.state.kept.value.state) after r (ap (λ (x : Entry). g.M.Meaning.step (m h.state.kept.value.state) x) (sym e) ∙ enabled) in
+    subst (λ (x : Entry). CanPay g.M.Meaning h.place.me.0 x (m h.state.kept.value.state) after) (sym e) (pays_on m g.M.Meaning t c.args.pass.now c.args.pass.now h h p.0 p.1 k.known k.held (change c.args.pass.now.number op w.a w.b r) (m h.state.kept.value.state) after can)
 
 pub leave-requires-clause-fits : goal.leave-requires-clause-fits
 leave-requires-clause-fits g c =
     let k = c.take-held.ensures in let p = c.requires.pass in let t = c.args.self.now.turn in let h = c.take-held.result in
     let m = g.S.Machine.meaning in
-    let n = c.change-at.new.self.state.state in
+    let n = c.change-at.new.self.state.kept.value.state in
     let low = low_number m g.M.Meaning t c.args.pass.now c.args.pass.now h h p.0 p.1 k.known k.held k.top t.few in
     let by : c.entry.result.by.0 ≡ h.number.0 = ap (λ (x : Entry). x.by.0) c.entry.ensures ∙ ap (λ (x : ThreadNo). x.0) c.number-by.ensures in
-    let room = room_on g.M.Meaning (m h.state.state) (m n) c.entry.result (g.S.Machine.spare h.state.state) (g.S.Machine.spare n) k.fits.1 (omega arith) c.change-at.ensures.step c.change-at.ensures.room in
-    let same : c.settle.new.queued.state ≡ n = c.settle.ensures.state ∙ ap (λ q. q.state) c.state_mut.ensures.value in
+    let room = room_on g.M.Meaning (m h.state.kept.value.state) (m n) c.entry.result (g.S.Machine.spare h.state.kept.value.state) (g.S.Machine.spare n) k.fits.1 (omega arith) c.change-at.ensures.step c.change-at.ensures.room in
+    let same : c.settle.new.queued.kept.value.state ≡ n = c.settle.ensures.state ∙ ap (λ q. q.kept.value.state) c.state_mut.ensures.value in
     (c.settle.ensures.marked, subst (λ s. HasRoom g.M.Meaning (m s) (g.S.Machine.spare s)) (sym same) room)
 
 pub look-at-requires-clause-shown : goal.look-at-requires-clause-shown
@@ -54,7 +54,7 @@ look-at-requires-clause-shown g c =
     let w = c.args.wish.now in
     let a : to_z w64 (of_z w64 w.a) ≡ w.a = search rules in
     let b : to_z w64 (of_z w64 w.b) ≡ w.b = search rules in
-    (λ i. g.M.Meaning.shows (g.S.Machine.meaning (sym c.state.ensures i).state) (look_of (sym c.number-by.ensures i) c.in-Look.op (a i) (b i) c.in-Look.reply (length h.place.me.0.front))) ∙ c.in-Look.ensures.1 (length h.place.me.0.front)
+    (λ i. g.M.Meaning.shows (g.S.Machine.meaning (sym c.state.ensures i).kept.value.state) (look_of (sym c.number-by.ensures i) c.in-Look.op (a i) (b i) c.in-Look.reply (length h.place.me.0.front))) ∙ c.in-Look.ensures.1 (length h.place.me.0.front)
 
 change_at : (g : Over) (c : After-leave g) (q : Pass g.row.M.Denot) → q ≡ c.leave.new.self.1.0 → (v : View g.row.M.Denot) → IsCellPassWith g.S.Machine.meaning g.M.Meaning c.args.self.now c.args.pass.now v
     → (w : View g.row.M.Denot) × IsCellPassWith g.S.Machine.meaning g.M.Meaning c.args.self.now q w × (c.args.wish.now.change ≡ Some c.in-Change.op × Makes g.M.Meaning v w (change c.args.pass.now.number c.in-Change.op c.args.wish.now.a c.args.wish.now.b c.in-Change.reply) c.change-at.result)
@@ -66,8 +66,8 @@ change_at g c q back v is =
     let o = c.in-Change.ensures in
     let number : c.number-by.result ≡ c.args.pass.now.number = c.number-by.ensures ∙ taker m g.M.Meaning t c.args.pass.now c.args.pass.now h h v is k.known k.held in
     let e : c.entry.result ≡ change c.args.pass.now.number op w.a w.b r = c.entry.ensures ∙ (λ i. change (number i) op w.a w.b r) in
-    let picked : g.M.Meaning.picks (m h.state.state) c.entry.result = subst (λ (x : g.row.M.Denot × Entry). g.M.Meaning.picks x.0 x.1) (λ i. (m (c.state.ensures i).state, sym c.entry.ensures i)) o.2 in
-    let d = made m g.M.Meaning t c.args.pass.now c.leave.new.self.1.0 h c.change-at.new.self v is k.known k.held c.entry.result c.change-at.result (m h.state.state) (m c.change-at.new.self.state.state) c.leave.ensures (ap (λ x. x.now) c.change-at.ensures.same.top ∙ k.top) c.change-at.ensures.view k.held.now.leads c.change-at.ensures.step picked c.change-at.ensures.position in (
+    let picked : g.M.Meaning.picks (m h.state.kept.value.state) c.entry.result = subst (λ (x : g.row.M.Denot × Entry). g.M.Meaning.picks x.0 x.1) (λ i. (m (c.state.ensures i).kept.value.state, sym c.entry.ensures i)) o.2 in
+    let d = made m g.M.Meaning t c.args.pass.now c.leave.new.self.1.0 h c.change-at.new.self v is k.known k.held c.entry.result c.change-at.result (m h.state.kept.value.state) (m c.change-at.new.self.state.kept.value.state) c.leave.ensures (ap (λ x. x.now) c.change-at.ensures.same.top ∙ k.top) c.change-at.ensures.view k.held.now.leads c.change-at.ensures.step picked c.change-at.ensures.position in (
       d.0,
       subst (λ (x : Pass g.row.M.Denot). IsCellPassWith m g.M.Meaning c.args.self.now x d.0) (sym back) d.1,
       (o.0, subst (λ (x : Entry). Makes g.M.Meaning v d.0 x c.change-at.result) e d.2),
@@ -87,8 +87,8 @@ look_at g c q back v is =
     let a : to_z w64 (of_z w64 w.a) ≡ w.a = search rules in
     let b : to_z w64 (of_z w64 w.b) ≡ w.b = search rules in
     let number : h.number ≡ c.args.pass.now.number = taker m g.M.Meaning t c.args.pass.now c.args.pass.now h h v is k.known k.held in
-    let shown : IsTrue (g.M.Meaning.shows (m h.state.state) (look_of h.number op (to_z w64 (of_z w64 w.a)) (to_z w64 (of_z w64 w.b)) r f)) = (λ i. g.M.Meaning.shows (m (sym c.state.ensures i).state) (look_of (sym c.number-by.ensures i) op (a i) (b i) r f)) ∙ c.in-Look.ensures.1 f in
-    let d = looked m g.M.Meaning t c.args.pass.now c.leave-in-Look.new.self.1.0 h c.look-at.new.self v is k.known k.held (look_of h.number op (to_z w64 (of_z w64 w.a)) (to_z w64 (of_z w64 w.b)) r f) (m h.state.state) c.leave-in-Look.ensures (ap (λ x. x.now) c.look-at.ensures.same.top ∙ k.top) c.look-at.ensures.view k.held.now.leads shown refl in (
+    let shown : IsTrue (g.M.Meaning.shows (m h.state.kept.value.state) (look_of h.number op (to_z w64 (of_z w64 w.a)) (to_z w64 (of_z w64 w.b)) r f)) = (λ i. g.M.Meaning.shows (m (sym c.state.ensures i).kept.value.state) (look_of (sym c.number-by.ensures i) op (a i) (b i) r f)) ∙ c.in-Look.ensures.1 f in
+    let d = looked m g.M.Meaning t c.args.pass.now c.leave-in-Look.new.self.1.0 h c.look-at.new.self v is k.known k.held (look_of h.number op (to_z w64 (of_z w64 w.a)) (to_z w64 (of_z w64 w.b)) r f) (m h.state.kept.value.state) c.leave-in-Look.ensures (ap (λ x. x.now) c.look-at.ensures.same.top ∙ k.top) c.look-at.ensures.view k.held.now.leads shown refl in (
       d.0,
       subst (λ (x : Pass g.row.M.Denot). IsCellPassWith m g.M.Meaning c.args.self.now x d.0) (sym back) d.1,
       (c.in-Look.ensures.0, subst (λ x. Looks g.M.Meaning v d.0 x) (λ i. look_of (number i) op (a i) (b i) r (sym c.look-at.ensures.stamp i)) d.2),
@@ -103,8 +103,8 @@ nothing_at g c q back v is =
     let k = c.take-held.ensures in let t = c.args.self.now.turn in let h = c.take-held.result in
     let m = g.S.Machine.meaning in
     let number : c.number-by.result ≡ c.args.pass.now.number = c.number-by.ensures ∙ taker m g.M.Meaning t c.args.pass.now c.args.pass.now h h v is k.known k.held in
-    let denies : Denies g.M.Meaning c.args.pass.now.number c.args.wish.now (m h.state.state) = subst (λ (x : ThreadNo × g.row.M.Denot). Denies g.M.Meaning x.0 c.args.wish.now x.1) (λ i. (number i, m (c.state.ensures i).state)) c.in-Nothing.ensures in
-    let d = found m g.M.Meaning t c.args.pass.now c.leave-in-Nothing.new.self.1.0 h h v is k.known k.held (Denies g.M.Meaning c.args.pass.now.number c.args.wish.now) (m h.state.state) c.leave-in-Nothing.ensures k.top refl k.held.now.leads denies in (
+    let denies : Denies g.M.Meaning c.args.pass.now.number c.args.wish.now (m h.state.kept.value.state) = subst (λ (x : ThreadNo × g.row.M.Denot). Denies g.M.Meaning x.0 c.args.wish.now x.1) (λ i. (number i, m (c.state.ensures i).kept.value.state)) c.in-Nothing.ensures in
+    let d = found m g.M.Meaning t c.args.pass.now c.leave-in-Nothing.new.self.1.0 h h v is k.known k.held (Denies g.M.Meaning c.args.pass.now.number c.args.wish.now) (m h.state.kept.value.state) c.leave-in-Nothing.ensures k.top refl k.held.now.leads denies in (
       d.0,
       subst (λ (x : Pass g.row.M.Denot). IsCellPassWith m g.M.Meaning c.args.self.now x d.0) (sym back) d.1,
       d.2,
