@@ -1,7 +1,7 @@
 -- Each step of one seat keeps the rule of the turn.
-use Rattle.std.proofs.Common.{◌≡◌, ◌≢◌, ℕ, ◌+◌, ◌*◌, ◌%◌, ◌^◌, ◌<◌, ◌≤◌, List, [], ◌∷◌, ◌++◌, length, get_or, set, Option, Some, None, true, false, IsTrue, refl, sym, ap, ◌∙◌, subst, arith, length-set, length-append, get_or-set_other, bit_or, bit_and}
+use Rattle.std.proofs.Common.{◌≡◌, ◌≢◌, ℕ, ◌+◌, ◌*◌, ◌%◌, ◌^◌, ◌<◌, ◌≤◌, List, [], ◌∷◌, ◌++◌, length, get_or, set, Option, Some, None, Bool, true, false, IsTrue, refl, sym, ap, ◌∙◌, subst, arith, length-set, length-append, get_or-set_other, bit_or, bit_and}
 use mathlib.Core.Logic.{dite}
-use mathlib.Core.Option.{none, some, some-injective}
+use mathlib.Core.Option.{none, some, some-injective, Option as Maybe}
 use mathlib.Core.List.{IsPrefix}
 use native.Mathlib.Decide.{ℕ_discrete}
 use lib.ListN.{get_elem?}
@@ -19,7 +19,7 @@ use Rattle.cx_turn.specs.declared.view.View.{View}
 use Rattle.cx_turn.specs.declared.view.Gone.{Gone}
 use Rattle.cx_turn.specs.Positions.{positions}
 use Rattle.cx_turn.specs.Views.{Each, IsShown, IsNow, Has, less, cost_of, entered, outside, with_change, with_look}
-use Rattle.cx_turn.specs.Turning.{Knows, Sees, Turns, IsGone, total, took, changed, looked, left, signalled, learned}
+use Rattle.cx_turn.specs.Turning.{Knows, Sees, Turns, IsGone, total, took, changed, changed_last, looked, left, signalled, learned}
 use Rattle.cx_turn.proofs.Histories.{leads_on, prefix_refl, prefix_more, positions_own, positions_other, each_map, each_append, cost_covers, some_is, looks_on, met_on, shown_now}
 use Rattle.cx_turn.proofs.Ids.{times_more, times_less}
 use Rattle.cx_turn.proofs.Totals.{total_set, total_at, total_stays}
@@ -224,98 +224,140 @@ module _ {S M : Type 0} (meaning : S → M) (fits : S → Type 0) (K : Ghosts M)
       (λ y c z. record { own = z.own; seen = z.seen; owned = z.owned; numbered = z.numbered; first = z.first; gone = z.gone; held = z.held }) in
       (w, keeps, tt, r', ((omega arith), refl, knows meaning fits K start seats (stepped s 0 n id cs w keeps) r' id w live (set_here s.views id w (at_below s.views id v at))))
 
-  pub changing : ((m m' : M) (e : Entry) (id : ℕ) → K.step m e ≡ Some m' → bit (K.lives m id) + names (K.gives m e) id ≤ bit (K.lives m' id) + names (K.takes m e) id)
-      → (slots id : ℕ) (v : D) (cs : List (ℕ × Desk S)) (e : Entry) (now after : M) → v.live ≡ true → v.counts ≡ true → v.inside ≡ true → run K.step (Some v.start) v.front ≡ Some now → K.step now e ≡ Some after → e.by.0 ≡ v.number
-      → cost_of (K.debt now) (K.debt after) ≤ v.left → K.pool now ≤ v.share + K.pool after → K.pool after < 2 ^ 32 → Has v.holds (K.takes now e)
-      → Allows Rule slots id (v, cs) 0 (λ n. (n + 2) % 2 ^ 64) (changed K e (step slots 0 2 0 none) (v, cs))
-  changing lives_on slots id v cs e now after live counts inside leads enabled own paid shared small has_it s r deep at narrow =
-      let k = r.each_pass id v at live counts in
-      let q = r.each_seat id v at live in
-      let h = k.held inside in
-      let n : ℕ = get_or s.words 0 0 in
-      let log' : List Entry = r.log ++ e ∷ [] in
-      let long : length log' ≡ length r.log + 1 = length-append r.log (e ∷ []) ∙ refl in
-      let as_long : length v.front ≡ length r.log = ap (λ (l : List Entry). length l) h.1 in
-      let is : n ≡ 2 * length r.log + 1 = r.word ∙ ap (λ b. 2 * length r.log + b) h.2 in
-      let cost : ℕ = cost_of (K.debt now) (K.debt after) in
-      let w : D = with_change K v e now after in
-      let other_number : (m : ℕ) → r.owner m ≢ Some id → e.by.0 ≢ m = λ m ne same. ne (ap r.owner (sym same ∙ own) ∙ k.owned) in
-      let not_gone : (m : ℕ) → r.owner m ≡ None → e.by.0 ≢ m = λ m none_owns. other_number m (λ f. absurd (let g : None ≡ Some id = sym none_owns ∙ f in cc)) in
-      let lead : Some r.now ≡ Some now = sym r.leads ∙ (ap (λ m. run K.step (Some m) r.log) (sym q.started) ∙ (ap (run K.step (Some v.start)) (sym h.1) ∙ leads)) in
-      let now_is : r.now ≡ now = some_is r.now now lead in
-      let own' : positions v.number 0 log' ≡ v.mine ++ length v.front ∷ [] = positions_own v.number 0 r.log e own ∙ (λ i. k.own i ++ (zero_is (length r.log) ∙ sym as_long) i ∷ []) in
-      let here : get_elem? (set s.views id w) id ≡ some w = set_here s.views id w (at_below s.views id v at) in
-      let lefts : total (λ (d : D). d.left) s.views + length r.log + K.debt now < 2 ^ 28 = subst (λ m. total (λ (d : D). d.left) s.views + length r.log + K.debt m < 2 ^ 28) now_is r.bounded in
-      let shares : total (λ (d : D). d.share) s.views ≤ K.pool now = subst (λ m. total (λ (d : D). d.share) s.views ≤ K.pool m) now_is r.shares in
-      let ids : (i : ℕ) → total (λ (d : D). times i d.holds) s.views ≤ bit (K.lives now i) = λ i. subst (λ m. total (λ (d : D). times i d.holds) s.views ≤ bit (K.lives m i)) now_is (r.ids i) in
-      let r' : Rule (stepped s 0 ((n + 2) % 2 ^ 64) id cs w keeps) = record {
-        log = log';
-        taken = 1;
-        holder = r.holder;
-        owner = r.owner;
-        splits = r.splits;
-        now = after;
-        wide = wide_is s.words ((n + 2) % 2 ^ 64) r.wide;
-        wakes = wakes_on s.words ((n + 2) % 2 ^ 64) r.wakes;
-        deep = r.deep;
-        leads = leads_on K.step start r.log e now after (r.leads ∙ lead) enabled;
-        binary = omega arith;
-        word = word_is s.words ((n + 2) % 2 ^ 64) (2 * length log' + 1) r.wide (omega arith);
-        free = λ z. absurd (omega arith);
-        held_by = λ b. (w, subst (λ j. get_elem? (set s.views id w) j ≡ some w) h.0 here, live, counts, inside);
-        bounded = (let a = total_set (λ (d : D). d.left) s.views id v w at in let b = total_at (λ (d : D). d.left) s.views id v at in let c = cost_covers (K.debt now) (K.debt after) in omega arith);
-        shares = (let a = total_set (λ (d : D). d.share) s.views id v w at in let b = total_at (λ (d : D). d.share) s.views id v at in omega arith);
-        pool = small;
-        ids = λ i. (let a = total_set (λ (d : D). times i d.holds) s.views id v w at in
-            let m = times_more i (less v.holds (K.takes now e)) (K.gives now e) in let l = times_less i v.holds (K.takes now e) has_it in let o = lives_on now after e i enabled in let y = ids i in omega arith);
-        unused = λ m above. positions_other m 0 r.log e (λ same. absurd (let a = k.numbered in omega arith)) ∙ r.unused m above;
-        few = r.few;
-        each_seat = seats_stay (λ j d. d.live ≡ true → Sees K start seats log' d) s.views id w
-            (λ l. record {
-              started = q.started;
-              seated = q.seated;
-              begins = subst (λ f. IsPrefix (f ++ e ∷ []) log') (sym h.1) (prefix_refl log');
-              looks = looks_on K v.start v.number v.front (v.front ++ e ∷ []) (e ∷ [], refl) v.looks q.looks;
-              met = met_on v.front (v.front ++ e ∷ []) (e ∷ [], refl) v.met q.met;
-            })
-            (λ j d other there l. let o = r.each_seat j d there l in record { started = o.started; seated = o.seated; begins = prefix_more d.front r.log (e ∷ []) o.begins; looks = o.looks; met = o.met });
-        each_pass = seats_stay (λ j d. d.live ≡ true → d.counts ≡ true → Knows log' 1 r.holder r.owner r.splits j d) s.views id w
-            (λ l c. record {
-              own = own';
-              seen = ap (λ f. positions v.number 0 (f ++ e ∷ [])) h.1 ∙ own';
-              owned = k.owned;
-              numbered = k.numbered;
-              first = k.first;
-              gone = each_map (IsGone r.log v.front r.owner r.splits) (IsGone log' w.front r.owner r.splits) (gone_on r.log v.front w.front r.owner r.splits e not_gone (λ m ne. positions_other m 0 v.front e ne)) v.taken k.gone;
-              held = λ z. (h.0, ap (λ f. f ++ e ∷ []) h.1, refl);
-            })
-            (λ j d other there l c. let o = r.each_pass j d there l c in record {
-              own = positions_other d.number 0 r.log e (other_number d.number (λ f. other (some_is j id (sym o.owned ∙ f)))) ∙ o.own;
-              seen = o.seen;
-              owned = o.owned;
-              numbered = o.numbered;
-              first = o.first;
-              gone = each_map (IsGone r.log d.front r.owner r.splits) (IsGone log' d.front r.owner r.splits) (gone_on r.log d.front d.front r.owner r.splits e not_gone (λ m ne. refl)) d.taken o.gone;
-              held = λ z. absurd (other ((o.held z).0 ∙ sym h.0));
-            });
-      } in
-      let s' : St = stepped s 0 ((n + 2) % 2 ^ 64) id cs w keeps in (
-        w,
-        keeps,
-        tt,
-        r',
-        (λ now' after' leads' enabled'.
-            let sn : now ≡ now' = some_is now now' (sym leads ∙ leads') in
-            let sa : after ≡ after' = some_is after after' (sym enabled ∙ (λ i. K.step (sn i) e) ∙ enabled') in (
-              (omega arith),
-              (λ i. (with_change K v e (sn i) (sa i), cs)),
-              knows meaning fits K start seats s' r' id w live here,
-              subst (λ m. IsNow K w (v.front ++ e ∷ []) m) sa (subst (λ f. IsNow K w f after) (ap (λ f. f ++ e ∷ []) (sym h.1)) (now_at meaning fits K start seats s' r' id w live here)),
-            )),
-      )
-    where
-      zero_is : (m : ℕ) → 0 + m ≡ m
-      zero_is m = omega arith
+  -- a change is made by the seat that has the turn
+  module _ (lives_on : (m m' : M) (e : Entry) (id : ℕ) → K.step m e ≡ Some m' → bit (K.lives m id) + names (K.gives m e) id ≤ bit (K.lives m' id) + names (K.takes m e) id) (id : ℕ) (v : D) (e : Entry) (now after : M) (live : v.live ≡ true)
+      (counts : v.counts ≡ true) (inside : v.inside ≡ true) (leads : run K.step (Some v.start) v.front ≡ Some now) (enabled : K.step now e ≡ Some after) (own : e.by.0 ≡ v.number) (paid : cost_of (K.debt now) (K.debt after) ≤ v.left)
+      (shared : K.pool now ≤ v.share + K.pool after) (small : K.pool after < 2 ^ 32) (has_it : Has v.holds (K.takes now e)) where
+    -- the seat's view, which stays inside or not
+    abbrev Then : Bool → D
+    Then b = record (with_change K v e now after) { inside = b }
+
+    module _ (s : St) (r : Rule s) (at : get_elem? s.views id ≡ some v) where
+      now_is : r.now ≡ now
+      now_is = let q = r.each_seat id v at live in let h = (r.each_pass id v at live counts).held inside in
+          some_is r.now now (sym r.leads ∙ (ap (λ m. run K.step (Some m) r.log) (sym q.started) ∙ (ap (run K.step (Some v.start)) (sym h.1) ∙ leads)))
+
+      -- the front is the whole history
+      whole : length v.front ≡ length r.log
+      whole = ap (λ (l : List Entry). length l) ((r.each_pass id v at live counts).held inside).1
+
+      -- and the word says that the turn is taken
+      odd : get_or s.words 0 0 ≡ 2 * length v.front + 1
+      odd = let h = (r.each_pass id v at live counts).held inside in let w = whole in r.word ∙ (ap (λ b. 2 * length r.log + b) h.2 ∙ omega arith)
+
+      other_number : (m : ℕ) → r.owner m ≢ Some id → e.by.0 ≢ m
+      other_number m ne same = ne (ap r.owner (sym same ∙ own) ∙ (r.each_pass id v at live counts).owned)
+
+      not_gone : (m : ℕ) → r.owner m ≡ None → e.by.0 ≢ m
+      not_gone m none_owns = other_number m (λ f. absurd (let g : None ≡ Some id = sym none_owns ∙ f in cc))
+
+      sees_change : (b : Bool) → Sees K start seats (r.log ++ e ∷ []) (Then b)
+      sees_change b =
+          let q = r.each_seat id v at live in
+          let h = (r.each_pass id v at live counts).held inside in record {
+            started = q.started;
+            seated = q.seated;
+            begins = subst (λ f. IsPrefix (f ++ e ∷ []) (r.log ++ e ∷ [])) (sym h.1) (prefix_refl (r.log ++ e ∷ []));
+            looks = looks_on K v.start v.number v.front (v.front ++ e ∷ []) (e ∷ [], refl) v.looks q.looks;
+            met = met_on v.front (v.front ++ e ∷ []) (e ∷ [], refl) v.met q.met;
+          }
+
+      knows_change : (b : Bool) (t : ℕ) → (b ≡ true → t ≡ 1) → Knows (r.log ++ e ∷ []) t r.holder r.owner r.splits id (Then b)
+      knows_change b t taken =
+          let k = r.each_pass id v at live counts in
+          let h = k.held inside in
+          let zero_is : 0 + length r.log ≡ length r.log = omega arith in
+          let own' : positions v.number 0 (r.log ++ e ∷ []) ≡ v.mine ++ length v.front ∷ [] = positions_own v.number 0 r.log e own ∙ (λ i. k.own i ++ (zero_is ∙ sym whole) i ∷ []) in record {
+            own = own';
+            seen = ap (λ f. positions v.number 0 (f ++ e ∷ [])) h.1 ∙ own';
+            owned = k.owned;
+            numbered = k.numbered;
+            first = k.first;
+            gone = each_map (IsGone r.log v.front r.owner r.splits) (IsGone (r.log ++ e ∷ []) (v.front ++ e ∷ []) r.owner r.splits) (gone_on r.log v.front (v.front ++ e ∷ []) r.owner r.splits e not_gone (λ m ne. positions_other m 0 v.front e ne)) v.taken k.gone;
+            held = λ z. (h.0, ap (λ f. f ++ e ∷ []) h.1, taken z);
+          }
+
+      knows_other : (t j : ℕ) (d : D) → j ≢ id → Knows r.log r.taken r.holder r.owner r.splits j d → Knows (r.log ++ e ∷ []) t r.holder r.owner r.splits j d
+      knows_other t j d other o = record {
+        own = positions_other d.number 0 r.log e (other_number d.number (λ f. other (some_is j id (sym o.owned ∙ f)))) ∙ o.own;
+        seen = o.seen;
+        owned = o.owned;
+        numbered = o.numbered;
+        first = o.first;
+        gone = each_map (IsGone r.log d.front r.owner r.splits) (IsGone (r.log ++ e ∷ []) d.front r.owner r.splits) (gone_on r.log d.front d.front r.owner r.splits e not_gone (λ m ne. refl)) d.taken o.gone;
+        held = λ z. absurd (other ((o.held z).0 ∙ sym ((r.each_pass id v at live counts).held inside).0));
+      }
+
+      -- the rule, once the word has counted the change, and is even where the turn is given up
+      change_kept : (x t : ℕ) (homes : List (Maybe (Desk S))) (b : Bool) → x ≡ 2 * (length v.front + 1) + t → t < 2 → length homes ≡ 1 → (t ≡ 0 → (y : S) × (get_elem? homes 0 ≡ some (some (Home y))) × (meaning y ≡ after) × fits y) → (t ≡ 1 → b ≡ true)
+          → (b ≡ true → t ≡ 1) → Rule record { words = set s.words 0 x; homes = homes; views = set s.views id (Then b) }
+      change_kept x t homes b counted binary deep free stays taken =
+          let k = r.each_pass id v at live counts in
+          let h = k.held inside in
+          let w : D = Then b in
+          let log' : List Entry = r.log ++ e ∷ [] in
+          let long : length log' ≡ length r.log + 1 = length-append r.log (e ∷ []) ∙ refl in
+          let as_long = whole in
+          let here : get_elem? (set s.views id w) id ≡ some w = set_here s.views id w (at_below s.views id v at) in
+          let lefts : total (λ (d : D). d.left) s.views + length r.log + K.debt now < 2 ^ 28 = subst (λ m. total (λ (d : D). d.left) s.views + length r.log + K.debt m < 2 ^ 28) now_is r.bounded in
+          let shares : total (λ (d : D). d.share) s.views ≤ K.pool now = subst (λ m. total (λ (d : D). d.share) s.views ≤ K.pool m) now_is r.shares in
+          let ids : (i : ℕ) → total (λ (d : D). times i d.holds) s.views ≤ bit (K.lives now i) = λ i. subst (λ m. total (λ (d : D). times i d.holds) s.views ≤ bit (K.lives m i)) now_is (r.ids i) in record {
+            log = log';
+            taken = t;
+            holder = r.holder;
+            owner = r.owner;
+            splits = r.splits;
+            now = after;
+            wide = wide_is s.words x r.wide;
+            wakes = wakes_on s.words x r.wakes;
+            deep = deep;
+            leads = leads_on K.step start r.log e now after (r.leads ∙ ap (λ m. Some m) now_is) enabled;
+            binary = binary;
+            word = word_is s.words x (2 * length log' + t) r.wide (omega arith);
+            free = free;
+            held_by = λ z. (w, subst (λ j. get_elem? (set s.views id w) j ≡ some w) h.0 here, live, counts, stays z);
+            bounded = (let a = total_set (λ (d : D). d.left) s.views id v w at in let p = total_at (λ (d : D). d.left) s.views id v at in let c = cost_covers (K.debt now) (K.debt after) in omega arith);
+            shares = (let a = total_set (λ (d : D). d.share) s.views id v w at in let p = total_at (λ (d : D). d.share) s.views id v at in omega arith);
+            pool = small;
+            ids = λ i. (let a = total_set (λ (d : D). times i d.holds) s.views id v w at in
+                let m = times_more i (less v.holds (K.takes now e)) (K.gives now e) in let l = times_less i v.holds (K.takes now e) has_it in let o = lives_on now after e i enabled in let y = ids i in omega arith);
+            unused = λ m above. positions_other m 0 r.log e (λ same. absurd (let a = k.numbered in omega arith)) ∙ r.unused m above;
+            few = r.few;
+            each_seat = seats_stay (λ j d. d.live ≡ true → Sees K start seats log' d) s.views id w (λ l. sees_change b)
+                (λ j d other there l. let o = r.each_seat j d there l in record { started = o.started; seated = o.seated; begins = prefix_more d.front r.log (e ∷ []) o.begins; looks = o.looks; met = o.met });
+            each_pass = seats_stay (λ j d. d.live ≡ true → d.counts ≡ true → Knows log' t r.holder r.owner r.splits j d) s.views id w (λ l c. knows_change b t taken) (λ j d other there l c. knows_other t j d other (r.each_pass j d there l c));
+          }
+
+      -- what the seat is told
+      told : (s' : St) (r' : Rule s') (b : Bool) → get_elem? s'.views id ≡ some (Then b) → r'.log ≡ r.log ++ e ∷ [] → r'.now ≡ after → IsNow K (Then b) (v.front ++ e ∷ []) after
+      told s' r' b there log_is after_is =
+          let h = (r.each_pass id v at live counts).held inside in
+          subst (λ (t : List Entry × M). IsNow K (Then b) t.0 t.1) (λ i. ((log_is ∙ ap (λ f. f ++ e ∷ []) (sym h.1)) i, after_is i)) (now_at meaning fits K start seats s' r' id (Then b) live there)
+
+    pub changing : (slots : ℕ) (cs : List (ℕ × Desk S)) → Allows Rule slots id (v, cs) 0 (λ n. (n + 2) % 2 ^ 64) (changed K e (step slots 0 2 0 none) (v, cs))
+    unfolding change_kept
+    changing slots cs s r deep at narrow =
+        let n : ℕ = get_or s.words 0 0 in
+        let is = odd s r at in
+        let long = whole s r at in
+        let few : total (λ (d : D). d.left) s.views + length r.log + K.debt r.now < 2 ^ 28 = r.bounded in
+        let w : D = with_change K v e now after in
+        let r' : Rule (stepped s 0 ((n + 2) % 2 ^ 64) id cs w keeps) = change_kept s r at ((n + 2) % 2 ^ 64) 1 s.homes v.inside (omega arith) (omega arith) r.deep (λ z. absurd (omega arith)) (λ z. inside) (λ z. refl) in
+        let s' : St = stepped s 0 ((n + 2) % 2 ^ 64) id cs w keeps in
+        let here : get_elem? (set s.views id w) id ≡ some w = set_here s.views id w (at_below s.views id v at) in (
+          w,
+          keeps,
+          tt,
+          r',
+          (λ now' after' leads' enabled'.
+              let sn : now ≡ now' = some_is now now' (sym leads ∙ leads') in
+              let sa : after ≡ after' = some_is after after' (sym enabled ∙ (λ i. K.step (sn i) e) ∙ enabled') in (
+                is,
+                (λ i. (with_change K v e (sn i) (sa i), cs)),
+                knows meaning fits K start seats s' r' id w live here,
+                subst (λ m. IsNow K w (v.front ++ e ∷ []) m) sa (told s r at s' r' v.inside here refl refl),
+              )),
+        )
 
   pub leaving : (slots id : ℕ) (me : Sat) (v : D) (cs : List (ℕ × Desk S)) (x : S) → me ≡ (v, (0, Home x) ∷ rest cs) → cs ≡ (0, Away) ∷ [] → v.live ≡ true → v.counts ≡ true → v.inside ≡ true → run K.step (Some v.start) v.front ≡ Some (meaning x) → fits x
       → Allows Rule slots id me 0 (λ n. bit_and n 18446744073709551614) (left (step slots 0 18446744073709551614 0 none) me)
@@ -367,4 +409,37 @@ module _ {S M : Type 0} (meaning : S → M) (fits : S → Type 0) (K : Ghosts M)
               });
         },
         refl,
+      ))
+
+  pub changing_last : ((m m' : M) (e : Entry) (id : ℕ) → K.step m e ≡ Some m' → bit (K.lives m id) + names (K.gives m e) id ≤ bit (K.lives m' id) + names (K.takes m e) id)
+      → (slots id : ℕ) (me : Sat) (v : D) (cs : List (ℕ × Desk S)) (x : S) (e : Entry) (now : M) → me ≡ (v, (0, Home x) ∷ rest cs) → cs ≡ (0, Away) ∷ [] → v.live ≡ true → v.counts ≡ true → v.inside ≡ true → run K.step (Some v.start) v.front ≡ Some now
+      → K.step now e ≡ Some (meaning x) → e.by.0 ≡ v.number → cost_of (K.debt now) (K.debt (meaning x)) ≤ v.left → K.pool now ≤ v.share + K.pool (meaning x) → K.pool (meaning x) < 2 ^ 32 → Has v.holds (K.takes now e) → fits x
+      → Allows Rule slots id me 0 (λ n. (n + 1) % 2 ^ 64) (changed_last K e (step slots 0 1 0 none) me)
+  unfolding change_kept
+  changing_last lives_on slots id me v cs x e now is carried live counts inside leads enabled own paid shared small has_it fit = subst (λ (m : Sat). Allows Rule slots id m 0 (λ n. (n + 1) % 2 ^ 64) (changed_last K e (step slots 0 1 0 none) m))
+      (sym (is ∙ ap (λ (c : List (ℕ × Desk S)). (v, (0, Home x) ∷ rest c)) carried))
+      (λ s r deep at narrow.
+      let after : M = meaning x in
+      let n : ℕ = get_or s.words 0 0 in
+      let one = odd lives_on id v e now after live counts inside leads enabled own paid shared small has_it s r at in
+      let long = whole lives_on id v e now after live counts inside leads enabled own paid shared small has_it s r at in
+      let few : total (λ (d : D). d.left) s.views + length r.log + K.debt r.now < 2 ^ 28 = r.bounded in
+      let w : D = outside (with_change K v e now after) in
+      let c : List (ℕ × Desk S) = (0, Home x) ∷ [] in
+      let r' : Rule (stepped s 0 ((n + 1) % 2 ^ 64) id c w gives) = change_kept lives_on id v e now after live counts inside leads enabled own paid shared small has_it s r at ((n + 1) % 2 ^ 64) 0 (set s.homes 0 (some (Home x))) false (omega arith) (omega arith)
+          (length-set s.homes 0 (some (Home x)) ∙ r.deep) (λ z. (x, set_here s.homes 0 (some (Home x)) (let d = r.deep in omega arith), refl, fit)) (λ z. absurd (omega arith)) (λ f. absurd (let g : false ≡ true = f in cc)) in
+      let s' : St = stepped s 0 ((n + 1) % 2 ^ 64) id c w gives in
+      let here : get_elem? (set s.views id w) id ≡ some w = set_here s.views id w (at_below s.views id v at) in (
+        w,
+        gives,
+        tt,
+        r',
+        (λ now' after' leads' enabled'.
+            let sn : now ≡ now' = some_is now now' (sym leads ∙ leads') in
+            let sa : after ≡ after' = some_is after after' (sym enabled ∙ (λ i. K.step (sn i) e) ∙ enabled') in (
+              one,
+              (λ i. (outside (with_change K v e (sn i) (sa i)), [])),
+              knows meaning fits K start seats s' r' id w live here,
+              subst (λ m. IsNow K w (v.front ++ e ∷ []) m) sa (told lives_on id v e now after live counts inside leads enabled own paid shared small has_it s r at s' r' false here refl refl),
+            )),
       ))

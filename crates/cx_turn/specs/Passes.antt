@@ -1,5 +1,5 @@
 -- What a clause says of a turn, a pass, a note, and what a taker holds.
-use Rattle.std.specs.Prelude.{◌≡◌, ℕ, ◌+◌, ◌<◌, ◌≤◌, List, [], ◌∷◌, length, true, false}
+use Rattle.std.specs.Prelude.{◌≡◌, ℕ, ◌+◌, ◌^◌, ◌<◌, ◌≤◌, List, [], ◌∷◌, length, Some, true, false}
 use mathlib.Core.List.{IsPrefix}
 use Rattle.atomic_table.specs.Seated.{TableId}
 use Rattle.cx_machine.specs.declared.kind.Entry.{Entry}
@@ -9,7 +9,9 @@ use Rattle.cx_turn.specs.declared.turn.Turn.{Turn}
 use Rattle.cx_turn.specs.declared.pass.Pass.{Pass}
 use Rattle.cx_turn.specs.declared.pass.Note.{Note}
 use Rattle.cx_turn.specs.declared.held.Held.{Held}
-use Rattle.cx_turn.specs.Views.{IsKnown, IsNow, Has, cost_of, entered, outside}
+use Rattle.cx_turn.specs.declared.held.Made.{Made}
+use Rattle.cx_machine.specs.Meaning.{run}
+use Rattle.cx_turn.specs.Views.{IsKnown, IsNow, Has, cost_of, entered, outside, with_change}
 use Rattle.cx_turn.specs.Turning.{IsOut}
 
 -- the numbers that a pass keeps are those of its view
@@ -72,6 +74,12 @@ module _ {S M H : Type 0} (meaning : S → M) where
     abbrev pub Enters : Turn M S H → Pass M → Held M S H → Type 0
     Enters t p h = (v : View M) → IsPassWith t p v → (h.place.me.0 ≡ entered v h.place.me.0.front) × IsPrefix v.front h.place.me.0.front
 
+-- what a change from one state to the other asks of the pass that makes it: enough changes left, a share of what the pool loses, and the ID that is taken back
+pub record CanPay {M : Type 0} (K : Ghosts M) (v : View M) (e : Entry) (now after : M) : Type 0 where
+  pub paid : cost_of (K.debt now) (K.debt after) ≤ v.left
+  pub shared : K.pool now ≤ v.share + K.pool after
+  pub has : Has v.holds (K.takes now e)
+
 module _ {M S H : Type 0} where
   abbrev pub held_view : Held M S H → View M
   held_view h = h.place.me.0
@@ -102,8 +110,23 @@ module _ {M S H : Type 0} where
   abbrev pub IsLeft : (S → M) → Ghosts M → Held M S H → Pass M → Type 0
   IsLeft meaning K h p = IsPassAt K h.top.now.table_id (meaning h.top.now.key.state.value) h.top.now.key.seats p (outside h.place.me.0)
 
--- what a change from one state to the other asks of the pass that makes it: enough changes left, a share of what the pool loses, and the ID that is taken back
-pub record CanPay {M : Type 0} (K : Ghosts M) (v : View M) (e : Entry) (now after : M) : Type 0 where
-  pub paid : cost_of (K.debt now) (K.debt after) ≤ v.left
-  pub shared : K.pool now ≤ v.share + K.pool after
-  pub has : Has v.holds (K.takes now e)
+  -- the taker has made the change in the state in its hand, and is to count it when it gives the turn up
+  pub record IsMade (meaning : S → M) (K : Ghosts M) (h : Held M S H) (d : Made S) : Type 0 where
+    pub table : h.place.table_id ≡ h.top.now.table_id
+    pub words : 0 < h.top.now.table_id.words
+    pub out : IsOut h.place
+    pub started : h.place.me.0.start ≡ meaning h.top.now.key.state.value
+    pub seated : h.place.me.0.seats ≡ h.top.now.key.seats
+    pub numbered : h.place.me.0.number ≡ h.number.0
+    pub splits : h.place.me.0.splits ≡ h.splits
+    pub leads : run K.step (Some h.place.me.0.start) h.place.me.0.front ≡ Some (meaning d.before.value)
+    pub enabled : K.step (meaning d.before.value) d.entry.value ≡ Some (meaning h.state)
+    pub own : d.entry.value.by ≡ h.number
+    pub pays : CanPay K h.place.me.0 d.entry.value (meaning d.before.value) (meaning h.state)
+    pub pool : K.pool (meaning h.state) < 2 ^ 32
+    pub may : (with_change K h.place.me.0 d.entry.value (meaning d.before.value) (meaning h.state)).left ≡ h.left
+    pub part : (with_change K h.place.me.0 d.entry.value (meaning d.before.value) (meaning h.state)).share ≡ h.share
+
+  -- the pass as the taker leaves it, who counts the change that it has made
+  abbrev pub IsLeftWith : (S → M) → Ghosts M → Held M S H → Made S → Pass M → Type 0
+  IsLeftWith meaning K h d p = IsPassAt K h.top.now.table_id (meaning h.top.now.key.state.value) h.top.now.key.seats p (outside (with_change K h.place.me.0 d.entry.value (meaning d.before.value) (meaning h.state)))

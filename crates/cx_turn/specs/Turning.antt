@@ -92,6 +92,11 @@ module _ {S M : Type 0} where
   changed K e st m n m' = (now after : M) → run K.step (Some m.0.start) m.0.front ≡ Some now → K.step now e ≡ Some after
       → (n ≡ 2 * length m.0.front + 1) × (m' ≡ (with_change K m.0 e now after, m.1)) × IsKnown K m'.0 × IsNow K m'.0 m'.0.front after
 
+  -- the change is made in the same way, and the turn is free again
+  abbrev pub changed_last : Ghosts M → Entry → Step (Desk S) → Sat S M → ℕ → Sat S M → Type 0
+  changed_last K e st m n m' = (now after : M) → run K.step (Some m.0.start) m.0.front ≡ Some now → K.step now e ≡ Some after
+      → (n ≡ 2 * length m.0.front + 1) × (m' ≡ (outside (with_change K m.0 e now after), [])) × IsKnown K m'.0 × IsNow K m'.0 m'.0.front after
+
   -- the look is made
   abbrev pub looked : Ghosts M → Look → Step (Desk S) → Sat S M → ℕ → Sat S M → Type 0
   looked K l st m n m' = (n ≡ 2 * length m.0.front + 1) × (m' ≡ (with_look m.0 l, m.1)) × IsKnown K m'.0

@@ -4,12 +4,12 @@ ghost use Rattle.cx_machine.specs.Meaning.{look_of};
 ghost use Rattle.cx_turn.specs.Views.{with_change, with_look, cost_of};
 
 use crate::pass::Pass;
-use crate::steps::{Place, Top, count, leave, see};
+use crate::steps::{Place, Top, count, leave, leave_with, see};
 use cx_machine::{Entry, Look, Machine, Meaning, Op};
 use cx_names::{NoMemory, Reply, ThreadNo};
 use std::snapshot::Snapshot;
 
-/// The state of a turn that a pass has taken. Each path must `leave`.
+/// The state of a turn that a pass has taken. Each path must `leave`, or `leave_with` a change.
 pub struct Held<'a, M: Meaning, S: Machine<M>> {
     pub(crate) top: &'a Top<M, S>,
     pub(crate) pass: &'a mut Pass<M>,
@@ -21,6 +21,13 @@ pub struct Held<'a, M: Meaning, S: Machine<M>> {
     pub(crate) splits: u32,
     pub(crate) state: S,
     pub(crate) hand: Option<S::Hand>,
+}
+
+/// A change that is made in the state and not counted yet. Nothing of it is there at run time.
+#[derive(Drop)]
+pub struct Made<S> {
+    pub(crate) before: Snapshot<S>,
+    pub(crate) entry: Snapshot<Entry>,
 }
 
 // What a change lowers `left` by, which moves the debt from one number to the other.
@@ -48,7 +55,7 @@ fn share_between(share: u32, pool: u32, then: u32) -> u32
 }
 
 impl<'a, M: Meaning, S: Machine<M>> Held<'a, M, S> {
-    ghost use Rattle.cx_turn.specs.Passes.{IsHeld, SamePlace, CanPay, IsLeft, held_front, held_view};
+    ghost use Rattle.cx_turn.specs.Passes.{IsHeld, IsMade, SamePlace, CanPay, IsLeft, IsLeftWith, held_front, held_view};
 
     /// The number of the pass.
     pub fn number(&self) -> ThreadNo
@@ -90,6 +97,33 @@ impl<'a, M: Meaning, S: Machine<M>> Held<'a, M, S> {
         self.left -= cost_between(debt, debt_then);
         self.share = share_between(self.share, pool, pool_then);
         at
+    }
+
+    /// Makes the change in the state, and counts it when the turn is given up: each path must then
+    /// `leave_with` what this returns.
+    pub fn make(&mut self, e: Entry) -> Made<S>
+        requires held { IsHeld S.meaning M.Meaning self.old }
+        requires enabled { IsSome (M.step (S.meaning self.old.state) e) }
+        requires own { e.by ≡ self.old.number }
+        requires room { (after : M) → M.step (S.meaning self.old.state) e ≡ Some after → length (M.members after) ≤ length (M.members (S.meaning self.old.state)) + S.spare self.old.state }
+        requires pays { (after : M) → M.step (S.meaning self.old.state) e ≡ Some after → CanPay M.Meaning (held_view self.old) e (S.meaning self.old.state) after }
+        requires hand { S.ready self.old.state self.old.hand e }
+        ensures same { SamePlace self.old self.new × (held_view self.new ≡ held_view self.old) }
+        ensures of { (result.before.value ≡ self.old.state) × (result.entry.value ≡ e) }
+        ensures made { IsMade S.meaning M.Meaning self.new result }
+        ensures room { length (M.members (S.meaning self.new.state)) + S.spare self.new.state ≡ length (M.members (S.meaning self.old.state)) + S.spare self.old.state }
+        ensures hand { S.moves self.old.state self.old.hand e self.new.state self.new.hand }
+    {
+        let made = Made {
+            before: Snapshot::of(&self.state),
+            entry: Snapshot::of(&e),
+        };
+        let (debt, pool) = (self.state.debt(), self.state.pool());
+        self.state.make(&e, &mut self.hand);
+        let cost = cost_between(debt, self.state.debt());
+        self.left -= cost;
+        self.share = share_between(self.share, pool, self.state.pool());
+        made
     }
 
     /// Makes the look, which the state shows, and gives its stamp.
@@ -153,5 +187,35 @@ impl<'a, M: Meaning, S: Machine<M>> Held<'a, M, S> {
         pass.share = share;
         pass.splits = splits;
         pass.badge = place.into_badge();
+    }
+    /// Counts the change that was made and gives the turn up, in one step. Gives its position.
+    pub fn leave_with(self, made: Made<S>) -> u32
+        requires made { IsMade S.meaning M.Meaning self made }
+        requires fits { S.fits self.state }
+        requires hand { self.hand ≡ None }
+        ensures left { IsLeftWith S.meaning M.Meaning self.entry made self.exit.1.0.now }
+        ensures position { result ≡ length (held_front self.entry) }
+    {
+        let Held {
+            top,
+            pass,
+            mut place,
+            number,
+            len: _,
+            left,
+            share,
+            splits,
+            state,
+            hand: _,
+        } = self;
+        let Made { before, entry } = made;
+        let at = leave_with(top, &mut place, &before, state, &entry);
+        pass.number = number;
+        pass.len = at + 1;
+        pass.left = left;
+        pass.share = share;
+        pass.splits = splits;
+        pass.badge = place.into_badge();
+        at
     }
 }

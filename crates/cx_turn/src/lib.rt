@@ -5,6 +5,7 @@
 //! - `Pass`: a caller's token, which has seen a beginning of the history.
 //! - `Note`: a part of a pass that goes from hand to hand.
 //! - `Held`: the state of a turn that a pass has taken.
+//! - `Made`: a change that is made in the state, and counted when the turn is given up.
 //! - `Lockable`: a lock that a condition can wait with.
 //! - `Board`, `Opening`, `TurnRule`, `Desk`, `View`, `Gone`: the table below, and what its seats know.
 #![tactic(auto)]
@@ -23,7 +24,7 @@ mod turn;
 mod view;
 mod waits;
 
-pub use held::Held;
+pub use held::{Held, Made};
 pub use lockable::Lockable;
 pub use pass::{Note, Pass};
 pub use rule::{Board, Opening, TurnRule};

@@ -5,7 +5,7 @@
 ghost use Rattle.std.specs.Prelude.{ℕ, Option, None};
 ghost use Rattle.cx_machine.specs.declared.kind.Entry.{Entry};
 ghost use Rattle.cx_machine.specs.declared.kind.Look.{Look};
-ghost use Rattle.cx_turn.specs.Turning.{took, changed, looked, left, signalled, learned};
+ghost use Rattle.cx_turn.specs.Turning.{took, changed, changed_last, looked, left, signalled, learned};
 ghost use Rattle.cx_turn.specs.Views.{split_left, split_right, note_left, note_right, both_of, spent_view};
 ghost use Rattle.cx_turn.specs.Picked.{some_entry, some_look};
 
@@ -39,6 +39,15 @@ pub struct Change<E> {
 
 impl<M: Meaning, S, E: Chosen> Play<Desk<S>, View<M>> for Change<E> {
     ghost then = { changed M.Meaning E.entry };
+}
+
+/// The history gets the change, and the turn is given up.
+pub struct LastChange<E> {
+    of: PhantomData<E>,
+}
+
+impl<M: Meaning, S, E: Chosen> Play<Desk<S>, View<M>> for LastChange<E> {
+    ghost then = { changed_last M.Meaning E.entry };
 }
 
 /// A look.

@@ -15,8 +15,8 @@
 //!
 //! Waking a pass writes 1, and taking the wake writes 0. Neither asks for the turn, or alters a view.
 //!
-//! Taking sets the bit, a change adds 2, a look is a load, leaving clears the bit. A split and a join
-//! are loads, which change views alone.
+//! Taking sets the bit, a change adds 2, a look is a load, leaving clears the bit, and leaving with a
+//! change adds 1, which does both. A split and a join are loads, which change views alone.
 use crate::view::{Desk, View};
 use atomic_table::{Table, TableRule};
 use cx_machine::{Machine, Meaning};

@@ -6,7 +6,7 @@ ghost use Rattle.cx_turn.specs.Turning.{IsOut};
 ghost use Rattle.cx_turn.specs.Views.{IsKnown, IsNow, Has, entered, with_change, with_look, outside, cost_of};
 ghost use Rattle.cx_turn.specs.declared.view.Desk.TheVariants.{Home, Away};
 
-use crate::plays::{Change, Chosen, Learn, Leave, LookAt, Shown, Signal, Take};
+use crate::plays::{Change, Chosen, LastChange, Learn, Leave, LookAt, Shown, Signal, Take};
 use crate::rule::{Opening, TurnRule};
 use crate::view::{Desk, View};
 use atomic_table::{Seat, Shared};
@@ -157,6 +157,66 @@ pub(crate) fn leave<M: Meaning, S: Machine<M>>(top: &Top<M, S>, place: &mut Plac
 {
     let _away = top.exchange(place, 0, Desk::Home(state));
     top.fetch_and::<Leave>(place, 0, u64::MAX - 1);
+}
+
+// Puts the state back, and then the count goes up by one change, which the step's type names, while
+// the turn is given up.
+fn leave_as<M: Meaning, S: Machine<M>, E: Chosen>(
+    top: &Top<M, S>,
+    place: &mut Place<M, S>,
+    before: &Snapshot<S>,
+    state: S,
+    e: &Snapshot<Entry>,
+) -> u64
+    requires table { (place.old.table_id ≡ top.now.table_id) × (0 < top.now.table_id.words) }
+    requires held { IsOut place.old }
+    requires leads { run M.step (Some place.old.me.0.start) place.old.me.0.front ≡ Some (S.meaning before.now.value) }
+    requires enabled { M.step (S.meaning before.now.value) E.entry ≡ Some (S.meaning state) }
+    requires own { E.entry.by.0 ≡ place.old.me.0.number }
+    requires paid { cost_of (M.debt (S.meaning before.now.value)) (M.debt (S.meaning state)) ≤ place.old.me.0.left }
+    requires shared { M.pool (S.meaning before.now.value) ≤ place.old.me.0.share + M.pool (S.meaning state) }
+    requires pool { M.pool (S.meaning state) < 2 ^ 32 }
+    requires id { Has place.old.me.0.holds (M.takes (S.meaning before.now.value) E.entry) }
+    requires fits { S.fits state }
+    ensures place { (place.new.table_id ≡ place.old.table_id) × (place.new.id ≡ place.old.id) }
+    ensures view { place.new.me ≡ (outside (with_change M.Meaning place.old.me.0 E.entry (S.meaning before.now.value) (S.meaning state)), []) }
+    ensures known { IsKnown M.Meaning place.new.me.0 }
+    ensures now { IsNow M.Meaning place.new.me.0 place.new.me.0.front (S.meaning state) }
+    ensures found { result ≡ 2 * length place.old.me.0.front + 1 }
+{
+    let _ = before;
+    let _ = e;
+    let _away = top.exchange(place, 0, Desk::Home(state));
+    top.fetch_add::<LastChange<E>>(place, 0, 1)
+}
+
+// Puts the state back, counts the change from one state to the other, gives the turn up in the same
+// step, and gives the change's position.
+pub(crate) fn leave_with<M: Meaning, S: Machine<M>>(
+    top: &Top<M, S>,
+    place: &mut Place<M, S>,
+    before: &Snapshot<S>,
+    state: S,
+    e: &Snapshot<Entry>,
+) -> u32
+    requires table { (place.old.table_id ≡ top.now.table_id) × (0 < top.now.table_id.words) }
+    requires held { IsOut place.old }
+    requires leads { run M.step (Some place.old.me.0.start) place.old.me.0.front ≡ Some (S.meaning before.now.value) }
+    requires enabled { M.step (S.meaning before.now.value) e.now.value ≡ Some (S.meaning state) }
+    requires own { e.now.value.by.0 ≡ place.old.me.0.number }
+    requires paid { cost_of (M.debt (S.meaning before.now.value)) (M.debt (S.meaning state)) ≤ place.old.me.0.left }
+    requires shared { M.pool (S.meaning before.now.value) ≤ place.old.me.0.share + M.pool (S.meaning state) }
+    requires pool { M.pool (S.meaning state) < 2 ^ 32 }
+    requires id { Has place.old.me.0.holds (M.takes (S.meaning before.now.value) e.now.value) }
+    requires fits { S.fits state }
+    ensures place { (place.new.table_id ≡ place.old.table_id) × (place.new.id ≡ place.old.id) }
+    ensures view { place.new.me ≡ (outside (with_change M.Meaning place.old.me.0 e.now.value (S.meaning before.now.value) (S.meaning state)), []) }
+    ensures known { IsKnown M.Meaning place.new.me.0 }
+    ensures now { IsNow M.Meaning place.new.me.0 place.new.me.0.front (S.meaning state) }
+    ensures position { result ≡ length place.old.me.0.front }
+{
+    let found = leave_as::<M, S, Brand>(top, place, before, state, e);
+    (found / 2) as u32
 }
 
 // Sets a wake word, and wakes who sleeps on it.

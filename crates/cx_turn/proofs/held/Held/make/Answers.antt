@@ -1,0 +1,1 @@
+use Rattle.cx_turn.proofs.held.Held.make.Goals as goal
