@@ -1,5 +1,5 @@
 -- What an attempt under a turn makes of a pass.
-use Rattle.std.proofs.Common.{◌≡◌, ℕ, ℤ, ◌<◌, ◌≤◌, List, [], length, Option, Some, None, IfSome, IsTrue, true, false, refl, sym, ap, ◌∙◌, subst, arith}
+use Rattle.std.proofs.Common.{◌≡◌, ℕ, ℤ, ◌^◌, ◌<◌, ◌≤◌, List, [], length, Option, Some, None, IfSome, IfNone, IsTrue, true, false, refl, sym, ap, ◌∙◌, subst, arith}
 use mathlib.Core.List.{IsPrefix}
 use Rattle.cx_names.specs.declared.ThreadNo.{ThreadNo}
 use Rattle.cx_names.specs.declared.Reply.{Reply}
@@ -12,17 +12,18 @@ use Rattle.cx_turn.specs.declared.view.View.{View}
 use Rattle.cx_turn.specs.declared.turn.Turn.{Turn}
 use Rattle.cx_turn.specs.declared.pass.Pass.{Pass}
 use Rattle.cx_turn.specs.declared.held.Held.{Held}
+use Rattle.cx_turn.specs.declared.held.Made.{Made}
 use Rattle.cx_turn.specs.Views.{IsNow, with_change, with_look, entered, outside}
-use Rattle.cx_turn.specs.Passes.{IsPassWith, IsLeft, Enters, IsHeld, CanPay}
+use Rattle.cx_turn.specs.Passes.{IsPassAt, IsPassWith, IsLeft, IsLeftWith, Enters, IsHeld, IsMade, CanPay}
 use Rattle.cx_turn.specs.Lending.{with_hand, with_state}
 use Rattle.cx_turn.proofs.Calls.{left_of}
 use Rattle.cx_turn.proofs.Histories.{prefix_trans, prefix_refl, some_is}
 use Rattle.cx_cell.specs.declared.queued.Queued.{Queued}
 use Rattle.cx_cell.specs.declared.wish.Wish.{Wish}
-use Rattle.cx_cell.specs.declared.wish.Done.{Done}
-use Rattle.cx_cell.specs.declared.wish.Done.TheVariants.{Made, Seen}
+use Rattle.cx_cell.specs.declared.wish.Either.{Either}
+use Rattle.cx_cell.specs.declared.wish.Either.TheVariants as eithers
 use Rattle.cx_cell.specs.Queue.{inner}
-use Rattle.cx_cell.specs.Acts.{seen, Sees, Makes, Looks, Finds, Denies, Pays, Does}
+use Rattle.cx_cell.specs.Acts.{seen, Sees, Makes, Looks, Finds, Denies, Pays, Does, DoesEither}
 
 module _ {M S H : Type 0} (meaning : S → M) (K : Ghosts M) where
   -- a write beside the state leaves what the taker holds
@@ -40,6 +41,27 @@ module _ {M S H : Type 0} (meaning : S → M) (K : Ghosts M) where
     now = subst (λ (s : S). IsNow K h.place.me.0 h.place.me.0.front (meaning s)) (sym same) held.now;
   }
 
+  -- and what it has made
+  pub made_on : (h : Held M (Queued S) H) (hand : Option H) (x : Queued S) (d : Made (Queued S)) → x.kept.value.state ≡ h.state.kept.value.state → IsMade (inner meaning) K h d → IsMade (inner meaning) K (with_state (with_hand h hand) x) d
+  made_on h hand x d same made =
+      let now : M = inner meaning d.before.value in
+      let e = d.entry.value in record {
+        table = made.table;
+        words = made.words;
+        out = made.out;
+        started = made.started;
+        seated = made.seated;
+        numbered = made.numbered;
+        splits = made.splits;
+        leads = made.leads;
+        enabled = subst (λ (s : S). K.step now e ≡ Some (meaning s)) (sym same) made.enabled;
+        own = made.own;
+        pays = subst (λ (s : S). CanPay K h.place.me.0 e now (meaning s)) (sym same) made.pays;
+        pool = subst (λ (s : S). K.pool (meaning s) < 2 ^ 32) (sym same) made.pool;
+        may = subst (λ (s : S). (with_change K h.place.me.0 e now (meaning s)).left ≡ h.left) (sym same) made.may;
+        part = subst (λ (s : S). (with_change K h.place.me.0 e now (meaning s)).share ≡ h.share) (sym same) made.part;
+      }
+
   module _ (t : Turn M (Queued S) H) (p p' : Pass M) (h h' : Held M (Queued S) H) (v : View M) (is : IsPassWith (inner meaning) K t p v) (enters : Enters (inner meaning) K t p h) (held : IsHeld (inner meaning) K h) where
     same_number : h.number.0 ≡ p.number.0
     same_number = sym held.numbered ∙ (ap (λ (x : View M). x.number) (enters v is).0 ∙ is.numbered)
@@ -55,22 +77,25 @@ module _ {M S H : Type 0} (meaning : S → M) (K : Ghosts M) where
     start_leads : (now : M) → run K.step (Some h.place.me.0.start) h.place.me.0.front ≡ Some now → run K.step (Some v.start) h.place.me.0.front ≡ Some now
     start_leads now leads = subst (λ (m : M). run K.step (Some m) h.place.me.0.front ≡ Some now) (ap (λ (x : View M). x.start) (enters v is).0) leads
 
-    pub made : (e : Entry) (n : ℕ) (now after : M) → IsLeft (inner meaning) K h' p' → h'.top.now ≡ t.board.shared → h'.place.me.0 ≡ with_change K h.place.me.0 e now after → run K.step (Some h.place.me.0.start) h.place.me.0.front ≡ Some now
-        → K.step now e ≡ Some after → K.picks now e → n ≡ length h.place.me.0.front → (w : View M) × IsPassWith (inner meaning) K t p' w × Makes K v w e n
-    made e n now after left top view leads enabled picked position =
-        let f = h.place.me.0.front in (
-          outside h'.place.me.0,
-          left_of (inner meaning) K t h' p' top left,
+    pub made : (d : Made (Queued S)) (n : ℕ) → IsMade (inner meaning) K h' d → IsLeftWith (inner meaning) K h' d p' → h'.top.now ≡ t.board.shared → h'.place.me.0 ≡ h.place.me.0 → K.picks (inner meaning d.before.value) d.entry.value → n ≡ length h'.place.me.0.front
+        → (w : View M) × IsPassWith (inner meaning) K t p' w × Makes K v w d.entry.value n
+    made d n is_made left top view picked position =
+        let f = h.place.me.0.front in
+        let e = d.entry.value in
+        let now : M = inner meaning d.before.value in
+        let after : M = inner meaning h'.state in (
+          outside (with_change K h'.place.me.0 e now after),
+          subst (λ x. IsPassAt K x.table_id (meaning x.key.state.value.kept.value.state) x.key.seats p' (outside (with_change K h'.place.me.0 e now after))) top left,
           record {
             found = f;
             now = now;
             after = after;
             later = (enters v is).1;
-            position = position;
-            leads = start_leads now leads;
-            enabled = enabled;
+            position = position ∙ ap (λ (x : View M). length x.front) view;
+            leads = start_leads now (subst (λ (x : View M). run K.step (Some x.start) x.front ≡ Some now) view is_made.leads);
+            enabled = is_made.enabled;
             picked = picked;
-            view = ap (λ (x : View M). outside x) view ∙ (ap (λ (x : View M). outside (with_change K x e now after)) (enters v is).0 ∙ (λ i. record (with_change K (seen v f) e now after) { inside = sym is.idle i }));
+            view = ap (λ (x : View M). outside (with_change K x e now after)) view ∙ (ap (λ (x : View M). outside (with_change K x e now after)) (enters v is).0 ∙ (λ i. record (with_change K (seen v f) e now after) { inside = sym is.idle i }));
           },
         )
 
@@ -124,15 +149,15 @@ module _ {M : Type 0} (K : Ghosts M) where
   }
 
   -- what was done by who had seen more
-  pub does_on : (by : ThreadNo) (wish : Wish) (v u w : View M) (d : Done) → Sees v u → Does K by wish u w d → Does K by wish v w d
+  pub does_on : (by : ThreadNo) (wish : Wish) (v u w : View M) (d : Either) → Sees v u → Does K by wish u w d → Does K by wish v w d
   does_on by wish v u w d s is = at u.front s.later (subst (λ (x : View M). Does K by wish x w d) s.same is)
     where
       at : (f : List Entry) → IsPrefix v.front f → Does K by wish (seen v f) w d → Does K by wish v w d
       at f p = by_cases d
         where
-          by_cases : (d' : Done) → Does K by wish (seen v f) w d' → Does K by wish v w d'
-          by_cases (Made op r n) (e, m) = (e, record { found = m.found; now = m.now; after = m.after; later = prefix_trans v.front f m.found p m.later; position = m.position; leads = m.leads; enabled = m.enabled; picked = m.picked; view = m.view })
-          by_cases (Seen op r k) (e, l) = (e, record { now = l.now; later = prefix_trans v.front f w.front p l.later; stamp = l.stamp; leads = l.leads; shown = l.shown; view = l.view })
+          by_cases : (d' : Either) → Does K by wish (seen v f) w d' → Does K by wish v w d'
+          by_cases (eithers.Made r n) (op, e, m) = (op, e, record { found = m.found; now = m.now; after = m.after; later = prefix_trans v.front f m.found p m.later; position = m.position; leads = m.leads; enabled = m.enabled; picked = m.picked; view = m.view })
+          by_cases (eithers.Seen r k) (op, e, l) = (op, e, record { now = l.now; later = prefix_trans v.front f w.front p l.later; stamp = l.stamp; leads = l.leads; shown = l.shown; view = l.view })
 
   -- who had seen more can pay as much
   pub pays_seen : (by : ThreadNo) (op : Op) (a b : ℤ) (v u : View M) → Sees v u → Pays K by op a b v → Pays K by op a b u
@@ -157,7 +182,20 @@ module _ {M : Type 0} (K : Ghosts M) where
     pub dark_wish : wish.look ≡ Some op → (m : M) → Denies K by wish m → ShowsNone K.shows m by op a b
     dark_wish is m d = subst (λ (z : ℤ × ℤ). ShowsNone K.shows m by op z.0 z.1) (λ i. (ea i, eb i)) (subst (λ x. IfSome x (λ o. ShowsNone K.shows m by o wish.a wish.b)) is d.dark)
 
--- what is so of an option's value
+  -- what was done is the change or the look that was wished for
+  pub does_either : (by : ThreadNo) (wish : Wish) (one two : Op) (a b : ℤ) → wish.a ≡ a → wish.b ≡ b → wish.change ≡ Some one → wish.look ≡ Some two → (v w : View M) (d : Either) → Does K by wish v w d → DoesEither K by one two a b v w d
+  does_either by wish one two a b ea eb is is' v w (eithers.Made r n) (o, e, m) = makes_wish by wish one a b ea eb o v w r n is e m
+  does_either by wish one two a b ea eb is is' v w (eithers.Seen r k) (o, e, l) = looks_wish by wish two a b ea eb o v w r k is' e l
+
+-- what is so of an option's value, or where there is none
+pub if_some_of : {A : Type 0} (P : A → Type 0) (o : Option A) → ((x : A) → o ≡ Some x → P x) → IfSome o P
+if_some_of P None f = tt
+if_some_of P (Some x) f = f x refl
+
+pub if_none_of : {A : Type 0} (P : Type 0) (o : Option A) → (o ≡ None → P) → IfNone o P
+if_none_of P None f = f refl
+if_none_of P (Some x) f = tt
+
 pub if_some_map : {A : Type 0} (P Q : A → Type 0) (o : Option A) → ((x : A) → P x → Q x) → IfSome o P → IfSome o Q
 if_some_map P Q None f is = tt
 if_some_map P Q (Some x) f is = f x is

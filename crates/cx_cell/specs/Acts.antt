@@ -12,8 +12,6 @@ use Rattle.cx_turn.specs.declared.view.View.{View}
 use Rattle.cx_turn.specs.Views.{with_change, with_look}
 use Rattle.cx_turn.specs.Passes.{CanPay}
 use Rattle.cx_cell.specs.declared.wish.Wish.{Wish}
-use Rattle.cx_cell.specs.declared.wish.Done.{Done}
-use Rattle.cx_cell.specs.declared.wish.Done.TheVariants as dones
 use Rattle.cx_cell.specs.declared.wish.Either.{Either}
 use Rattle.cx_cell.specs.declared.wish.Either.TheVariants as eithers
 use Rattle.cx_cell.specs.declared.offer.Offer.{Offer}
@@ -75,12 +73,12 @@ module _ {M : Type 0} (K : Ghosts M) where
   Pays by op a b v = (now after : M) (r : Reply) → K.step now (change by op a b r) ≡ Some after → CanPay K v (change by op a b r) now after
 
   -- what was done
-  abbrev pub Does : ThreadNo → Wish → View M → View M → Done → Type 0
-  Does by wish v w (dones.Made op r n) = (wish.change ≡ Some op) × Makes v w (change by op wish.a wish.b r) n
-  Does by wish v w (dones.Seen op r k) = (wish.look ≡ Some op) × Looks v w (look_of by op wish.a wish.b r k)
+  abbrev pub Does : ThreadNo → Wish → View M → View M → Either → Type 0
+  Does by wish v w (eithers.Made r n) = (op : Op) × (wish.change ≡ Some op) × Makes v w (change by op wish.a wish.b r) n
+  Does by wish v w (eithers.Seen r k) = (op : Op) × (wish.look ≡ Some op) × Looks v w (look_of by op wish.a wish.b r k)
 
   -- what an attempt came to
-  abbrev pub Attempts : ThreadNo → Wish → View M → View M → Option Done → Type 0
+  abbrev pub Attempts : ThreadNo → Wish → View M → View M → Option Either → Type 0
   Attempts by wish v w None = Finds (Denies by wish) v w
   Attempts by wish v w (Some done) = Does by wish v w done
 

@@ -10,7 +10,7 @@ use crate::called::Called;
 use crate::cell::Cell;
 use crate::offer::{Offer, offered};
 use crate::queued::{put_off, settle};
-use crate::wish::{Done, Wish};
+use crate::wish::{Either, Wish};
 use cx_machine::{Entry, Machine, Meaning, Op};
 use cx_names::{Reply, ThreadNo};
 use cx_turn::Pass;
@@ -49,7 +49,7 @@ impl<M: Meaning, S: Machine<M>> Cell<M, S> {
         wish: &Wish,
         waits: bool,
         called: &mut Called,
-    ) -> (Option<Done>, bool)
+    ) -> (Option<Either>, bool)
         requires pass { IsCellPass S.meaning M.Meaning self.now pass.old }
         requires pays { IfSome wish.now.change (λ op. (v : View M) → IsCellPassWith S.meaning M.Meaning self.now pass.old v → Pays M.Meaning pass.old.number op wish.now.a wish.now.b v) }
         requires ready { IfSome wish.now.change (λ op. (s : S) (e : Entry) → S.ready s None e) }
@@ -59,17 +59,17 @@ impl<M: Meaning, S: Machine<M>> Cell<M, S> {
         let by = held.number();
         match offered::<M, S>(&held.state().kept.state, by, wish) {
             Offer::Change(op, reply) => {
-                let at = held.change(entry(by, op, wish, reply));
+                let made = held.make(entry(by, op, wish, reply));
                 *held.hand() = None;
                 settle::<M, S>(held.state_mut(), by, called);
-                held.leave();
-                (Some(Done::Made(op, reply, at)), false)
+                let at = held.leave_with(made);
+                (Some(Either::Made(reply, at)), false)
             }
             Offer::Look(op, reply) => {
                 let at = held.look(op, wish.a, wish.b, reply);
                 settle::<M, S>(held.state_mut(), by, called);
                 held.leave();
-                (Some(Done::Seen(op, reply, at)), false)
+                (Some(Either::Seen(reply, at)), false)
             }
             Offer::Nothing => {
                 let queued = put_off::<M, S>(held.state_mut(), by, wish, waits, called);
@@ -101,7 +101,7 @@ impl<M: Meaning, S: Machine<M>> Cell<M, S> {
         pass: &mut Pass<M>,
         wish: &Wish,
         waits: bool,
-    ) -> (Option<Done>, bool)
+    ) -> (Option<Either>, bool)
         requires pass { IsCellPass S.meaning M.Meaning self.now pass.old }
         requires pays { IfSome wish.now.change (λ op. (v : View M) → IsCellPassWith S.meaning M.Meaning self.now pass.old v → Pays M.Meaning pass.old.number op wish.now.a wish.now.b v) }
         requires ready { IfSome wish.now.change (λ op. (s : S) (e : Entry) → S.ready s None e) }
@@ -127,7 +127,7 @@ impl<M: Meaning, S: Machine<M>> Cell<M, S> {
     }
 
     // Waits until what is wished for is done.
-    pub(crate) fn fulfil<R: Wait>(&self, rt: &R, pass: &mut Pass<M>, wish: &Wish) -> Done
+    pub(crate) fn fulfil<R: Wait>(&self, rt: &R, pass: &mut Pass<M>, wish: &Wish) -> Either
         requires pass { IsCellPass S.meaning M.Meaning self.now pass.old }
         requires pays { IfSome wish.now.change (λ op. (v : View M) → IsCellPassWith S.meaning M.Meaning self.now pass.old v → Pays M.Meaning pass.old.number op wish.now.a wish.now.b v) }
         requires ready { IfSome wish.now.change (λ op. (s : S) (e : Entry) → S.ready s None e) }

@@ -9,7 +9,7 @@ ghost use Rattle.cx_cell.specs.Queue.{IsMarked};
 
 use crate::cell::Cell;
 use crate::queued::waiter_of;
-use crate::wish::{Done, Either, Waiter, Wish};
+use crate::wish::{Either, Waiter, Wish};
 use cx_machine::{Machine, Meaning, Op};
 use cx_names::{Reply, ThreadNo};
 use cx_turn::Pass;
@@ -37,8 +37,8 @@ impl<M: Meaning, S: Machine<M>> Cell<M, S> {
         let wish = Wish::new(Some(op), None, a, b);
         match self.act(rt, pass, &wish, false).0 {
             Some(done) => match done {
-                Done::Made(_, reply, at) => Some((reply, at)),
-                Done::Seen(..) => unreachable!(),
+                Either::Made(reply, at) => Some((reply, at)),
+                Either::Seen(..) => unreachable!(),
             },
             None => None,
         }
@@ -63,8 +63,8 @@ impl<M: Meaning, S: Machine<M>> Cell<M, S> {
         let wish = Wish::new(None, Some(op), a, b);
         match self.act(rt, pass, &wish, false).0 {
             Some(done) => match done {
-                Done::Seen(_, reply, at) => Some((reply, at)),
-                Done::Made(..) => unreachable!(),
+                Either::Seen(reply, at) => Some((reply, at)),
+                Either::Made(..) => unreachable!(),
             },
             None => None,
         }
@@ -90,13 +90,7 @@ impl<M: Meaning, S: Machine<M>> Cell<M, S> {
         ensures none { IfNone result ((v : View M) → IsCellPassWith S.meaning M.Meaning self.now pass.old v → (w : View M) × IsCellPassWith S.meaning M.Meaning self.now pass.new w × Finds M.Meaning (λ m. IsShut M.step m pass.old.number change a b × ShowsNone M.shows m pass.old.number look a b) v w) }
     {
         let wish = Wish::new(Some(change), Some(look), a, b);
-        match self.act(rt, pass, &wish, false).0 {
-            Some(done) => match done {
-                Done::Made(_, reply, at) => Some(Either::Made(reply, at)),
-                Done::Seen(_, reply, at) => Some(Either::Seen(reply, at)),
-            },
-            None => None,
-        }
+        self.act(rt, pass, &wish, false).0
     }
 
     /// Makes the change as soon as it is enabled, and gives its reply and its position. Waits.
@@ -115,8 +109,8 @@ impl<M: Meaning, S: Machine<M>> Cell<M, S> {
     {
         let wish = Wish::new(Some(op), None, a, b);
         match self.fulfil(rt, pass, &wish) {
-            Done::Made(_, reply, at) => (reply, at),
-            Done::Seen(..) => unreachable!(),
+            Either::Made(reply, at) => (reply, at),
+            Either::Seen(..) => unreachable!(),
         }
     }
 
@@ -134,8 +128,8 @@ impl<M: Meaning, S: Machine<M>> Cell<M, S> {
     {
         let wish = Wish::new(None, Some(op), a, b);
         match self.fulfil(rt, pass, &wish) {
-            Done::Seen(_, reply, at) => (reply, at),
-            Done::Made(..) => unreachable!(),
+            Either::Seen(reply, at) => (reply, at),
+            Either::Made(..) => unreachable!(),
         }
     }
 
@@ -148,10 +142,7 @@ impl<M: Meaning, S: Machine<M>> Cell<M, S> {
         ensures { (v : View M) → IsCellPassWith S.meaning M.Meaning self.now pass.old v → (w : View M) × IsCellPassWith S.meaning M.Meaning self.now pass.new w × DoesEither M.Meaning pass.old.number change look (pos 0) (pos 0) v w result }
     {
         let wish = Wish::new(Some(change), Some(look), 0, 0);
-        match self.fulfil(rt, pass, &wish) {
-            Done::Made(_, reply, at) => Either::Made(reply, at),
-            Done::Seen(_, reply, at) => Either::Seen(reply, at),
-        }
+        self.fulfil(rt, pass, &wish)
     }
 
     /// The caller of this number as it stands in the queue, if it is there.

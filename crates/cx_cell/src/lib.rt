@@ -20,4 +20,4 @@ mod wish;
 
 pub use cell::Cell;
 pub use queued::{Kept, Queued};
-pub use wish::{Done, Either, Waiter, Wish};
+pub use wish::{Either, Waiter, Wish};

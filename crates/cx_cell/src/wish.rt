@@ -14,14 +14,7 @@ pub struct Wish {
     pub b: i64,
 }
 
-/// What was done of a wish: a change at a position, or a look at a stamp.
-#[derive(Clone, Copy)]
-pub enum Done {
-    Made(Op, Reply, u32),
-    Seen(Op, Reply, u32),
-}
-
-/// What a call did that could do two things.
+/// What was done of a wish, or by a call that could do two things.
 #[derive(Clone, Copy, Debug, PartialEq, Eq)]
 pub enum Either {
     /// It made the change, with this reply, at this position.

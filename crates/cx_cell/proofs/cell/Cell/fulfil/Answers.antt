@@ -3,7 +3,7 @@ use Rattle.cx_names.specs.declared.ThreadNo.{ThreadNo}
 use Rattle.cx_machine.specs.declared.kind.Op.{Op}
 use Rattle.cx_turn.specs.declared.view.View.{View}
 use Rattle.cx_turn.proofs.Histories.{head_is}
-use Rattle.cx_cell.specs.declared.wish.Done.{Done}
+use Rattle.cx_cell.specs.declared.wish.Either.{Either}
 use Rattle.cx_cell.specs.Cells.{IsCellPassWith}
 use Rattle.cx_cell.specs.Acts.{Attempts, Does, Denies, Sees, Pays}
 use Rattle.cx_cell.proofs.Attempting.{sees_self, finds_on, does_on, pays_seen, if_some_map, same_pass}
@@ -35,7 +35,7 @@ returns-in-Some-done g c v is =
     let t = c.loop.invariant.2 v is in
     let q = c.act-done.ensures t.0 t.1 in
     let number : c.loop.pass.number ≡ c.args.pass.now.number = same_pass g.S.Machine.meaning g.M.Meaning c.args.self.now.turn c.args.pass.now c.loop.pass v t.0 is t.1 t.2 in
-    let d : Does g.M.Meaning c.loop.pass.number w t.0 q.0 c.in-Some-done.done = subst (λ (o : Option Done). Attempts g.M.Meaning c.loop.pass.number w t.0 q.0 o) c.in-Some-done.is q.2 in
+    let d : Does g.M.Meaning c.loop.pass.number w t.0 q.0 c.in-Some-done.done = subst (λ (o : Option Either). Attempts g.M.Meaning c.loop.pass.number w t.0 q.0 o) c.in-Some-done.is q.2 in
     let e : Does g.M.Meaning c.args.pass.now.number w t.0 q.0 c.in-Some-done.done = subst (λ (n : ThreadNo). Does g.M.Meaning n w t.0 q.0 c.in-Some-done.done) number d in
     (q.0, q.1, does_on g.M.Meaning c.args.pass.now.number w v t.0 q.0 c.in-Some-done.done t.2 e)
 
@@ -50,6 +50,6 @@ loop-preserved g c = (
       let w = c.args.wish.now in
       let t = c.loop.invariant.2 v is in
       let q = c.act-done.ensures t.0 t.1 in
-      let f = subst (λ (o : Option Done). Attempts g.M.Meaning c.loop.pass.number w t.0 q.0 o) c.in_default.is q.2 in
+      let f = subst (λ (o : Option Either). Attempts g.M.Meaning c.loop.pass.number w t.0 q.0 o) c.in_default.is q.2 in
       (q.0, c.rest-tries.ensures q.0 q.1, finds_on g.M.Meaning (Denies g.M.Meaning c.loop.pass.number w) v t.0 q.0 t.2 f),
 )

@@ -3,10 +3,10 @@ use mir.Syntax.{w64}
 use mir.Val.{to_z, of_z}
 use Rattle.cx_machine.specs.Meaning.{IsShut, ShowsNone}
 use Rattle.cx_turn.specs.declared.view.View.{View}
-use Rattle.cx_cell.specs.declared.wish.Done.{Done}
+use Rattle.cx_cell.specs.declared.wish.Either.{Either}
 use Rattle.cx_cell.specs.Cells.{IsCellPassWith}
 use Rattle.cx_cell.specs.Acts.{Attempts, Does, Denies}
-use Rattle.cx_cell.proofs.Attempting.{pays_wish, makes_wish, looks_wish, shut_wish, dark_wish, finds_map}
+use Rattle.cx_cell.proofs.Attempting.{pays_wish, shut_wish, dark_wish, does_either, finds_map, if_some_of, if_none_of}
 use Rattle.cx_cell.proofs.cell.Cell.try_either.Goals as goal
 
 pub act-requires-clause-pays : goal.act-requires-clause-pays
@@ -16,29 +16,25 @@ act-requires-clause-pays g c =
     let eb : w.b ≡ c.args.b = c.new-wish.ensures.numbers.1 ∙ search rules in
     pays_wish g.M.Meaning c.args.pass.now.number w c.args.change c.args.a c.args.b ea eb (IsCellPassWith g.S.Machine.meaning g.M.Meaning c.args.self.now c.args.pass.now) c.new-wish.ensures.change c.requires.pays
 
-pub returns-in-Made-clause-done : goal.returns-in-Made-clause-done
-returns-in-Made-clause-done g c v is =
+pub returns-clause-done : goal.returns-clause-done
+returns-clause-done g c =
     let w = c.new-wish.result in
     let ea : w.a ≡ c.args.a = c.new-wish.ensures.numbers.0 ∙ search rules in
     let eb : w.b ≡ c.args.b = c.new-wish.ensures.numbers.1 ∙ search rules in
+    if_some_of _ c.act.result.0
+    (λ d some v is.
     let q = c.act.ensures v is in
-    let d = subst (λ (o : Option Done). Attempts g.M.Meaning c.args.pass.now.number w v q.0 o) (c.in-Some.is ∙ ap (λ (x : Done). Some x) c.in-Made.is) q.2 in
-    (q.0, q.1, makes_wish g.M.Meaning c.args.pass.now.number w c.args.change c.args.a c.args.b ea eb _ v q.0 c.in-Made.reply c.in-Made.at c.new-wish.ensures.change d.0 d.1)
+    let did = subst (λ (o : Option Either). Attempts g.M.Meaning c.args.pass.now.number w v q.0 o) some q.2 in
+    (q.0, q.1, does_either g.M.Meaning c.args.pass.now.number w c.args.change c.args.look c.args.a c.args.b ea eb c.new-wish.ensures.change c.new-wish.ensures.look v q.0 d did))
 
-pub returns-in-Seen-clause-done : goal.returns-in-Seen-clause-done
-returns-in-Seen-clause-done g c v is =
+pub returns-clause-none : goal.returns-clause-none
+returns-clause-none g c =
     let w = c.new-wish.result in
     let ea : w.a ≡ c.args.a = c.new-wish.ensures.numbers.0 ∙ search rules in
     let eb : w.b ≡ c.args.b = c.new-wish.ensures.numbers.1 ∙ search rules in
+    if_none_of _ c.act.result.0
+    (λ none v is.
     let q = c.act.ensures v is in
-    let d = subst (λ (o : Option Done). Attempts g.M.Meaning c.args.pass.now.number w v q.0 o) (c.in-Some.is ∙ ap (λ (x : Done). Some x) c.in-Seen.is) q.2 in
-    (q.0, q.1, looks_wish g.M.Meaning c.args.pass.now.number w c.args.look c.args.a c.args.b ea eb _ v q.0 c.in-Seen.reply c.in-Seen.at c.new-wish.ensures.look d.0 d.1)
-
-pub returns-in-None-clause-none : goal.returns-in-None-clause-none
-returns-in-None-clause-none g c v is =
-    let w = c.new-wish.result in
-    let ea : w.a ≡ c.args.a = c.new-wish.ensures.numbers.0 ∙ search rules in
-    let eb : w.b ≡ c.args.b = c.new-wish.ensures.numbers.1 ∙ search rules in
-    let q = c.act.ensures v is in
-    let f = subst (λ (o : Option Done). Attempts g.M.Meaning c.args.pass.now.number w v q.0 o) c.in-None.is q.2 in
-    (q.0, q.1, finds_map g.M.Meaning (Denies g.M.Meaning c.args.pass.now.number w) (λ m. IsShut g.M.Meaning.step m c.args.pass.now.number c.args.change c.args.a c.args.b × ShowsNone g.M.Meaning.shows m c.args.pass.now.number c.args.look c.args.a c.args.b) v q.0 (λ m d. (shut_wish g.M.Meaning c.args.pass.now.number w c.args.change c.args.a c.args.b ea eb c.new-wish.ensures.change m d, dark_wish g.M.Meaning c.args.pass.now.number w c.args.look c.args.a c.args.b ea eb c.new-wish.ensures.look m d)) f)
+    let f = subst (λ (o : Option Either). Attempts g.M.Meaning c.args.pass.now.number w v q.0 o) none q.2 in
+    (q.0, q.1, finds_map g.M.Meaning (Denies g.M.Meaning c.args.pass.now.number w) (λ m. IsShut g.M.Meaning.step m c.args.pass.now.number c.args.change c.args.a c.args.b × ShowsNone g.M.Meaning.shows m c.args.pass.now.number c.args.look c.args.a c.args.b) v q.0
+        (λ m d. (shut_wish g.M.Meaning c.args.pass.now.number w c.args.change c.args.a c.args.b ea eb c.new-wish.ensures.change m d, dark_wish g.M.Meaning c.args.pass.now.number w c.args.look c.args.a c.args.b ea eb c.new-wish.ensures.look m d)) f))

@@ -3,7 +3,7 @@ use mir.Syntax.{w64}
 use mir.Val.{to_z, of_z}
 use Rattle.cx_machine.specs.Meaning.{IsShut, ShowsNone}
 use Rattle.cx_turn.specs.declared.view.View.{View}
-use Rattle.cx_cell.specs.declared.wish.Done.{Done}
+use Rattle.cx_cell.specs.declared.wish.Either.{Either}
 use Rattle.cx_cell.specs.Cells.{IsCellPassWith}
 use Rattle.cx_cell.specs.Acts.{Attempts, Does, Denies}
 use Rattle.cx_cell.proofs.Attempting.{pays_wish, makes_wish}
@@ -22,5 +22,5 @@ returns g c v is =
     let ea : w.a ≡ c.args.a = c.new-wish.ensures.numbers.0 ∙ search rules in
     let eb : w.b ≡ c.args.b = c.new-wish.ensures.numbers.1 ∙ search rules in
     let q = c.fulfil.ensures v is in
-    let d = subst (λ (o : Done). Does g.M.Meaning c.args.pass.now.number w v q.0 o) c.in-Made.is q.2 in
-    (q.0, q.1, makes_wish g.M.Meaning c.args.pass.now.number w c.args.op c.args.a c.args.b ea eb _ v q.0 c.in-Made.reply c.in-Made.at c.new-wish.ensures.change d.0 d.1)
+    let d = subst (λ (o : Either). Does g.M.Meaning c.args.pass.now.number w v q.0 o) c.in-Made.is q.2 in
+    (q.0, q.1, makes_wish g.M.Meaning c.args.pass.now.number w c.args.op c.args.a c.args.b ea eb _ v q.0 c.in-Made.reply c.in-Made.at c.new-wish.ensures.change d.1 d.2)
