@@ -1,5 +1,5 @@
 -- What an attempt under a turn makes of a pass.
-use Rattle.std.proofs.Common.{◌≡◌, ℕ, ℤ, ◌^◌, ◌<◌, ◌≤◌, List, [], length, Option, Some, None, IfSome, IfNone, IsTrue, true, false, refl, sym, ap, ◌∙◌, subst, arith}
+use Rattle.std.proofs.Common.{◌≡◌, ℕ, ℤ, ◌^◌, ◌<◌, ◌≤◌, List, length, Option, Some, None, IfSome, IfNone, IsTrue, refl, sym, ap, ◌∙◌, subst, arith}
 use mathlib.Core.List.{IsPrefix}
 use Rattle.cx_names.specs.declared.ThreadNo.{ThreadNo}
 use Rattle.cx_names.specs.declared.Reply.{Reply}
@@ -13,7 +13,7 @@ use Rattle.cx_turn.specs.declared.turn.Turn.{Turn}
 use Rattle.cx_turn.specs.declared.pass.Pass.{Pass}
 use Rattle.cx_turn.specs.declared.held.Held.{Held}
 use Rattle.cx_turn.specs.declared.held.Made.{Made}
-use Rattle.cx_turn.specs.Views.{IsNow, with_change, with_look, entered, outside}
+use Rattle.cx_turn.specs.Views.{IsNow, with_change, with_look, outside}
 use Rattle.cx_turn.specs.Passes.{IsPassAt, IsPassWith, IsLeft, IsLeftWith, Enters, IsHeld, IsMade, CanPay}
 use Rattle.cx_turn.specs.Lending.{with_hand, with_state}
 use Rattle.cx_turn.proofs.Calls.{left_of}

@@ -48,6 +48,7 @@ fn look_now<M: Meaning, S: Machine<M>>(state: &S, by: ThreadNo, wish: &Wish) -> 
     }
 }
 
+#[inline(always)]
 pub(crate) fn offered<M: Meaning, S: Machine<M>>(state: &S, by: ThreadNo, wish: &Wish) -> Offer
     ensures { Offers M.Meaning (S.meaning state.now) by wish.now result }
 {

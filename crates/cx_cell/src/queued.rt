@@ -83,7 +83,8 @@ impl<M: Meaning, S: Machine<M>> Machine<M> for Queued<S> {
 }
 
 // Marks a waiter that isn't marked yet where the state allows its wish, and notes that it is to be
-// woken.
+// woken. Out of line, since the queue is empty at most calls.
+#[inline(never)]
 fn mark_one<M: Meaning, S: Machine<M>>(state: &S, waiter: &mut Waiter, called: &mut Called)
     ensures marked { IsMarked M.Meaning (S.meaning state.now) waiter.new }
     ensures same { (waiter.new.seat ≡ waiter.old.seat) × (waiter.new.wish ≡ waiter.old.wish) }

@@ -427,7 +427,7 @@ module _ {S M : Type 0} (meaning : S → M) (fits : S → Type 0) (K : Ghosts M)
       let w : D = outside (with_change K v e now after) in
       let c : List (ℕ × Desk S) = (0, Home x) ∷ [] in
       let r' : Rule (stepped s 0 ((n + 1) % 2 ^ 64) id c w gives) = change_kept lives_on id v e now after live counts inside leads enabled own paid shared small has_it s r at ((n + 1) % 2 ^ 64) 0 (set s.homes 0 (some (Home x))) false (omega arith) (omega arith)
-          (length-set s.homes 0 (some (Home x)) ∙ r.deep) (λ z. (x, set_here s.homes 0 (some (Home x)) (let d = r.deep in omega arith), refl, fit)) (λ z. absurd (omega arith)) (λ f. absurd (let g : false ≡ true = f in cc)) in
+      (length-set s.homes 0 (some (Home x)) ∙ r.deep) (λ z. (x, set_here s.homes 0 (some (Home x)) (let d = r.deep in omega arith), refl, fit)) (λ z. absurd (omega arith)) (λ f. absurd (let g : false ≡ true = f in cc)) in
       let s' : St = stepped s 0 ((n + 1) % 2 ^ 64) id c w gives in
       let here : get_elem? (set s.views id w) id ≡ some w = set_here s.views id w (at_below s.views id v at) in (
         w,

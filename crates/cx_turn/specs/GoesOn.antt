@@ -1,5 +1,5 @@
 -- What the tests' calls on a semaphore's turn make of a pass.
-use Rattle.std.specs.Prelude.{◌≡◌, ℕ, ◌≤◌, ◌+◌, List, [], None, false}
+use Rattle.std.specs.Prelude.{◌≡◌, ◌≤◌, ◌+◌, [], None, false}
 use mathlib.Core.List.{IsPrefix}
 use Rattle.cx_machine.specs.Acts.{at_entry, at_look}
 use Rattle.cx_machine.specs.Semaphore.{Semaphore, opening, step, shows}

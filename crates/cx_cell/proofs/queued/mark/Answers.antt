@@ -3,7 +3,6 @@ use mathlib.Core.Logic.{dite}
 use native.Mathlib.Decide.{ℕ_discrete}
 use Rattle.std.proofs.lemmas.Option.{slice_get-get_or}
 use Rattle.cx_turn.proofs.Histories.{some_is}
-use Rattle.cx_cell.specs.declared.wish.Waiter.{Waiter}
 use Rattle.cx_cell.specs.Queue.{IsMarked}
 use Rattle.cx_cell.proofs.queued.mark.Goals as goal
 

@@ -1,6 +1,5 @@
-use Rattle.std.proofs.Common.{◌≡◌, ◌∙◌, Option, refl, sym, ap, subst, Some, None, IfSome, IsSome, true, false}
+use Rattle.std.proofs.Common.{◌≡◌, ◌∙◌, Option, refl, sym, subst, None, IfSome, IsSome, true, false}
 use Rattle.cx_names.specs.declared.ThreadNo.{ThreadNo}
-use Rattle.cx_machine.specs.declared.kind.Op.{Op}
 use Rattle.cx_machine.specs.declared.machine.Meaning.{Ghosts}
 use Rattle.cx_machine.specs.Meaning.{change, look_of, IsShut, ShowsNone}
 use Rattle.cx_cell.specs.declared.wish.Wish.{Wish}

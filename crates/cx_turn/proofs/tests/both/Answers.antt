@@ -1,4 +1,4 @@
-use Rattle.std.proofs.Common.{◌≡◌, ◌∙◌, ◌≤◌, ◌<◌, ◌+◌, ap, sym, subst, arith}
+use Rattle.std.proofs.Common.{◌∙◌, ◌<◌, sym, subst, arith}
 use Rattle.cx_turn.specs.Views.{opening_view, split_left, split_right}
 use Rattle.cx_turn.specs.Passes.{IsPassWith, seats_of}
 use Rattle.cx_turn.specs.GoesOn.{kept, counting}

@@ -1,8 +1,8 @@
-use Rattle.std.proofs.Common.{◌≡◌, ◌<◌, ◌≤◌, ◌∙◌, ℕ, List, [], ◌∷◌, ◌++◌, true, sym, ap, subst, inl, inr, arith, cond, Some}
+use Rattle.std.proofs.Common.{◌≡◌, ◌<◌, ◌≤◌, ◌∙◌, ℕ, List, [], ◌∷◌, ◌++◌, true, sym, subst, inl, inr, arith, cond}
 use Rattle.cx_machine.specs.Semaphore.{Semaphore}
 use Rattle.cx_turn.specs.declared.view.View.{View}
 use Rattle.cx_turn.specs.declared.view.Gone.{Gone}
-use Rattle.cx_turn.specs.Views.{IsIn, both_of, gone_of, longer}
+use Rattle.cx_turn.specs.Views.{IsIn, both_of, gone_of}
 use Rattle.cx_turn.proofs.Histories.{head_is}
 use Rattle.cx_turn.proofs.tests.end.Goals as goal
 

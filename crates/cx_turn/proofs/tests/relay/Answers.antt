@@ -1,4 +1,4 @@
-use Rattle.std.proofs.Common.{◌≡◌, ◌∙◌, ◌≤◌, ◌+◌, ap, sym, arith}
+use Rattle.std.proofs.Common.{◌∙◌, sym, arith}
 use Rattle.cx_turn.specs.Views.{split_left}
 use Rattle.cx_turn.proofs.tests.relay.Goals as goal
 

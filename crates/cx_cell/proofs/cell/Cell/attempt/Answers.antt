@@ -1,4 +1,4 @@
-use Rattle.std.proofs.Common.{rules, ◌≡◌, ◌∙◌, ◌<◌, ◌≤◌, ◌+◌, ℕ, ℤ, length, refl, sym, ap, subst, arith, Some, None, IfSome, IsTrue, true}
+use Rattle.std.proofs.Common.{rules, ◌≡◌, ◌∙◌, length, refl, sym, ap, subst, arith, Some, None, IfSome, IsTrue}
 use mir.Syntax.{w64}
 use mir.Val.{to_z, of_z}
 use Rattle.cx_names.specs.declared.ThreadNo.{ThreadNo}
@@ -10,7 +10,7 @@ use Rattle.cx_turn.specs.declared.pass.Pass.{Pass}
 use Rattle.cx_turn.specs.Passes.{CanPay}
 use Rattle.cx_turn.specs.Lending.{with_hand, with_state}
 use Rattle.cx_cell.specs.Cells.{IsCellPassWith}
-use Rattle.cx_cell.specs.Queue.{HasRoom, inner}
+use Rattle.cx_cell.specs.Queue.{HasRoom}
 use Rattle.cx_cell.specs.Acts.{Makes, Looks, Finds, Denies, Pays}
 use Rattle.cx_cell.proofs.Room.{room_for, room_on}
 use Rattle.cx_cell.proofs.Attempting.{taker, low_number, made, made_on, looked, found, pays_on}

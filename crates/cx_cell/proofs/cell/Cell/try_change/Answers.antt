@@ -1,11 +1,8 @@
-use Rattle.std.proofs.Common.{rules, ◌≡◌, ◌∙◌, sym, subst, ap, Some, None, Option}
-use mir.Syntax.{w64}
-use mir.Val.{to_z, of_z}
-use Rattle.cx_machine.specs.Meaning.{IsShut, ShowsNone}
-use Rattle.cx_turn.specs.declared.view.View.{View}
+use Rattle.std.proofs.Common.{rules, ◌≡◌, ◌∙◌, subst, ap, Some, Option}
+use Rattle.cx_machine.specs.Meaning.{IsShut}
 use Rattle.cx_cell.specs.declared.wish.Either.{Either}
 use Rattle.cx_cell.specs.Cells.{IsCellPassWith}
-use Rattle.cx_cell.specs.Acts.{Attempts, Does, Denies}
+use Rattle.cx_cell.specs.Acts.{Attempts, Denies}
 use Rattle.cx_cell.proofs.Attempting.{pays_wish, makes_wish, shut_wish, finds_map}
 use Rattle.cx_cell.proofs.cell.Cell.try_change.Goals as goal
 

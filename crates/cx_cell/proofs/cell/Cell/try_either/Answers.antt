@@ -1,11 +1,8 @@
-use Rattle.std.proofs.Common.{rules, ◌≡◌, ◌∙◌, sym, subst, ap, Some, None, Option}
-use mir.Syntax.{w64}
-use mir.Val.{to_z, of_z}
+use Rattle.std.proofs.Common.{rules, ◌≡◌, ◌∙◌, subst, Option}
 use Rattle.cx_machine.specs.Meaning.{IsShut, ShowsNone}
-use Rattle.cx_turn.specs.declared.view.View.{View}
 use Rattle.cx_cell.specs.declared.wish.Either.{Either}
 use Rattle.cx_cell.specs.Cells.{IsCellPassWith}
-use Rattle.cx_cell.specs.Acts.{Attempts, Does, Denies}
+use Rattle.cx_cell.specs.Acts.{Attempts, Denies}
 use Rattle.cx_cell.proofs.Attempting.{pays_wish, shut_wish, dark_wish, does_either, finds_map, if_some_of, if_none_of}
 use Rattle.cx_cell.proofs.cell.Cell.try_either.Goals as goal
 
@@ -35,6 +32,9 @@ returns-clause-none g c =
     if_none_of _ c.act.result.0
     (λ none v is.
     let q = c.act.ensures v is in
-    let f = subst (λ (o : Option Either). Attempts g.M.Meaning c.args.pass.now.number w v q.0 o) none q.2 in
-    (q.0, q.1, finds_map g.M.Meaning (Denies g.M.Meaning c.args.pass.now.number w) (λ m. IsShut g.M.Meaning.step m c.args.pass.now.number c.args.change c.args.a c.args.b × ShowsNone g.M.Meaning.shows m c.args.pass.now.number c.args.look c.args.a c.args.b) v q.0
-        (λ m d. (shut_wish g.M.Meaning c.args.pass.now.number w c.args.change c.args.a c.args.b ea eb c.new-wish.ensures.change m d, dark_wish g.M.Meaning c.args.pass.now.number w c.args.look c.args.a c.args.b ea eb c.new-wish.ensures.look m d)) f))
+    let f = subst (λ (o : Option Either). Attempts g.M.Meaning c.args.pass.now.number w v q.0 o) none q.2 in (
+      q.0,
+      q.1,
+      finds_map g.M.Meaning (Denies g.M.Meaning c.args.pass.now.number w) (λ m. IsShut g.M.Meaning.step m c.args.pass.now.number c.args.change c.args.a c.args.b × ShowsNone g.M.Meaning.shows m c.args.pass.now.number c.args.look c.args.a c.args.b) v q.0
+          (λ m d. (shut_wish g.M.Meaning c.args.pass.now.number w c.args.change c.args.a c.args.b ea eb c.new-wish.ensures.change m d, dark_wish g.M.Meaning c.args.pass.now.number w c.args.look c.args.a c.args.b ea eb c.new-wish.ensures.look m d)) f,
+    ))

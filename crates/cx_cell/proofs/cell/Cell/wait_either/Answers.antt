@@ -1,11 +1,5 @@
-use Rattle.std.proofs.Common.{rules, ◌≡◌, ◌∙◌, sym, subst, ap, Some, None, Option, pos}
-use mir.Syntax.{w64}
-use mir.Val.{to_z, of_z}
-use Rattle.cx_machine.specs.Meaning.{IsShut, ShowsNone}
-use Rattle.cx_turn.specs.declared.view.View.{View}
-use Rattle.cx_cell.specs.declared.wish.Either.{Either}
+use Rattle.std.proofs.Common.{pos}
 use Rattle.cx_cell.specs.Cells.{IsCellPassWith}
-use Rattle.cx_cell.specs.Acts.{Attempts, Does, Denies}
 use Rattle.cx_cell.proofs.Attempting.{pays_wish, does_either}
 use Rattle.cx_cell.proofs.cell.Cell.wait_either.Goals as goal
 

@@ -1,8 +1,8 @@
-use Rattle.std.proofs.Common.{rules, ◌≡◌, ◌∙◌, ◌<◌, ℕ, List, length, slice_get, refl, sym, ap, subst, Some, None, Option, IfSome}
+use Rattle.std.proofs.Common.{rules, ◌≡◌, ◌<◌, List, length, slice_get, refl, subst, Some, Option, IfSome}
 use Rattle.cx_turn.specs.declared.pass.Pass.{Pass}
 use Rattle.cx_cell.specs.declared.wish.Waiter.{Waiter}
 use Rattle.cx_cell.specs.Cells.{IsCellPassWith}
-use Rattle.cx_cell.specs.Queue.{IsMarked, AreMarked, StandsIn}
+use Rattle.cx_cell.specs.Queue.{IsMarked, StandsIn}
 use Rattle.cx_cell.proofs.Attempting.{found, finds_map, if_some_map}
 use Rattle.cx_cell.proofs.cell.Cell.waiter.Goals as goal
 

@@ -1,1 +1,0 @@
-use Rattle.cx_turn.proofs.held.Held.make.Goals as goal
