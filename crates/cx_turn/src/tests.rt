@@ -49,6 +49,33 @@ fn act<R: Wait>(rt: &R, gate: &Gate, pass: &mut Token, op: Op, n: i64) -> Answer
     }
 }
 
+// The same, and counts the change in the step that gives the turn up.
+fn act_at_once<R: Wait>(rt: &R, gate: &Gate, pass: &mut Token, op: Op, n: i64) -> Answer
+    requires pass { IsPassOf kept counting gate.now pass.old }
+    requires left { 1 ≤ pass.old.left }
+    ensures { (v : View Semaphore) → IsPassWith kept counting gate.now pass.old v → (w : View Semaphore) × IsPassWith kept counting gate.now pass.new w × GoesOn v w }
+{
+    let mut held = gate.take(rt, pass);
+    let by = held.number();
+    match held.state().reply(by, op, n, 0) {
+        Some(reply) => {
+            let made = held.make(Entry {
+                by,
+                op,
+                a: n,
+                b: 0,
+                reply,
+            });
+            let at = held.leave_with(made);
+            Some((reply, at))
+        }
+        None => {
+            held.leave();
+            None
+        }
+    }
+}
+
 // The first caller releases two and wakes the second, which sleeps until then and acquires.
 fn carry<R: Wait>(rt: &R, gate: &Gate, mut pass: Token, first: bool) -> (Token, Answer)
     requires pass { IsPassOf kept counting gate.now pass }
@@ -140,7 +167,15 @@ fn relay<R: Wait>(rt: &R, alloc: Global) -> Result<Outcome, NoMemory> {
     })
 }
 
-// The same by two threads. None where a thread could not be started.
+// One thread releases one, and then as many more. Gives the second answer, and the pass's numbers.
+fn releases_twice<R: Wait>(rt: &R, alloc: Global, n: i64) -> Result<(Answer, u32, u32), NoMemory> {
+    let (gate, mut pass) = Gate::new(alloc, SemaphoreState::new(0, 2), 1, 4)?;
+    act_at_once(rt, &gate, &mut pass, Op::Release, 1);
+    let second = act_at_once(rt, &gate, &mut pass, Op::Release, n);
+    Ok((second, pass.len(), pass.left()))
+}
+
+// What `relay` does, by two threads. None where a thread could not be started.
 fn both<R: Threads + Wait + Copy + Send + 'static>(
     rt: &R,
     alloc: Global,
@@ -186,6 +221,14 @@ fn reserves<R: Wait>(rt: &R, alloc: Global) -> Result<bool, NoMemory> {
 #[test]
 fn a_stop_has_room_for_a_callback(rt: HostRuntime) -> Result<(), Fail> {
     assert!(rt; reserves(&rt, rt.alloc())?);
+    Ok(())
+}
+
+#[test]
+fn a_change_is_counted_as_the_turn_is_given_up(rt: HostRuntime) -> Result<(), Fail> {
+    assert!(rt; releases_twice(&rt, rt.alloc(), 1)? == (Some((Reply::Ok, 1)), 2, 2));
+    // the counter is 1, and its greatest value 2
+    assert!(rt; releases_twice(&rt, rt.alloc(), 2)? == (None, 1, 3));
     Ok(())
 }
 
