@@ -1,0 +1,12 @@
+pub mod Passing
+pub mod Fitting
+pub mod Stepping
+pub mod Walking
+pub mod Bodying
+pub mod Newness
+pub mod Counting
+pub mod OwnLevels
+pub mod Rows
+pub mod Copying
+pub mod Splits
+pub mod Good

@@ -1,0 +1,6 @@
+use Rattle.std.proofs.Common.{◌*◌}
+use Rattle.cx_work.proofs.Rows.{SomeMade}
+use Rattle.cx_work.proofs.making.all_of.Given as goal
+
+abbrev pub invariant-loop-object : goal.invariant-loop-object
+invariant-loop-object l = SomeMade l.declared l.object-index l.threads (131072 * l.threads) l.all.items l.tokens.items

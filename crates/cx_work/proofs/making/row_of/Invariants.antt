@@ -1,0 +1,6 @@
+use Rattle.std.proofs.Common.{◌+◌, ◌-◌, ◌*◌}
+use Rattle.cx_work.proofs.Rows.{RowMade}
+use Rattle.cx_work.proofs.making.row_of.Given as goal
+
+abbrev pub invariant-loop-o : goal.invariant-loop-o
+invariant-loop-o l = RowMade l.objects l.threads l.splits (131072 * (l.threads - l.splits)) (131072 * (l.threads - (l.splits + 1))) l.o l.main l.row.items
