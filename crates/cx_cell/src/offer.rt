@@ -15,6 +15,7 @@ pub(crate) enum Offer {
     Nothing,
 }
 
+#[inline(always)]
 fn change_now<M: Meaning, S: Machine<M>>(
     state: &S,
     by: ThreadNo,
