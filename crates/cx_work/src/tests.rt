@@ -2,7 +2,7 @@ ghost use Rattle.std.specs.Prelude.{◌≡◌, vec_len, IfOk};
 ghost use Rattle.cx_scene.specs.Scene.{scene_of};
 ghost use Rattle.cx_work.specs.RunNow.{IsRunNow};
 
-use crate::{Objects, Open, Work};
+use crate::{Objects, Open, Token, Work};
 use cx_io::Job;
 use cx_items::Item;
 use cx_names::{NoMemory, ObjectNo, Reply, ThreadNo};
@@ -101,5 +101,56 @@ fn a_body_is_made(rt: HostRuntime) -> Result<(), NoMemory> {
     if let Some(item) = list.get(18) {
         assert_eq!(rt; number_on(MUTEX, item), 3);
     }
+    Ok(())
+}
+
+/// Two threads; the second one's text takes 3 of the latch's 4.
+fn two_threads(alloc: Global) -> Result<Plan, NoMemory>
+    ensures now { IfOk result (λ p. IsRunNow (scene_of p)) }
+    ensures threads { IfOk result (λ p. vec_len p.threads ≡ 2) }
+{
+    let objects = [Object::Recursive, Object::Latch { count: 4 }];
+    let latch = ObjectNo(1);
+    let other = ThreadNo(1);
+    let main = [
+        Call::Start(other),
+        Call::CountDown(latch, 1),
+        Call::Join(other),
+    ];
+    let body = [
+        Call::LockRecursive(ObjectNo(0)),
+        Call::CountDown(latch, 2),
+        Call::ArriveAndWaitLatch(latch),
+    ];
+    let main = Vec::from_array(alloc, main)?;
+    let body = Vec::from_array(alloc, body)?;
+    Ok(Plan {
+        version: 1,
+        threads: Vec::from_array(alloc, [Thread::Plain, Thread::Plain])?,
+        objects: Vec::from_array(alloc, objects)?,
+        callbacks: Vec::new(alloc),
+        bodies: Vec::from_array(alloc, [main, body])?,
+    })
+}
+
+/// The share of the latch that is object 1, or 1,000.
+fn share_of(tokens: Option<&Vec<Token>>) -> u32 {
+    match tokens {
+        Some(tokens) => match tokens.get(1) {
+            Some(Token::Latch(pass)) => pass.share(),
+            _ => 1000,
+        },
+        None => 1000,
+    }
+}
+
+#[test]
+fn each_thread_gets_what_its_text_takes(rt: HostRuntime) -> Result<(), NoMemory> {
+    let plan = two_threads(rt.alloc())?;
+    let (objects, passes) = Objects::make(rt.alloc(), &plan)?;
+    assert_eq!(rt; objects.all.len(), 2);
+    assert_eq!(rt; passes.threads.len(), 2);
+    assert_eq!(rt; share_of(passes.threads.get(0)), 1);
+    assert_eq!(rt; share_of(passes.threads.get(1)), 3);
     Ok(())
 }
