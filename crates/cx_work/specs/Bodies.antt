@@ -1,5 +1,5 @@
 -- What a thread's body promises of its list and its tokens.
-use Rattle.std.specs.Prelude.{◌≡◌, ℕ, Bool, false, IsTrue, List, []}
+use Rattle.std.specs.Prelude.{◌≡◌, ℕ, Bool, true, false, IsTrue, List, []}
 use Rattle.std.specs.Arc.{arc_value}
 use Rattle.cx_scene.specs.Scene.{Scene, scene_of}
 use Rattle.cx_items.specs.declared.item.Item.{Item}
@@ -50,9 +50,10 @@ module _ {G : Type 0} where
     pub at_ : IsAt (scene_in w.objects) w.standing
     pub fresh : w.standing.list.items ≡ []
 
-  -- what it gives: the thread's tokens, and its list, which is whole unless memory ran out
+  -- what it gives: the thread's tokens, and its list, which is whole unless memory ran out, and empty then
   pub record Gives (w : Work G) (e : Ended) : Type 0 where
     pub thread : e.thread ≡ w.standing.thread
     pub tokens : AreTokens (all_in w.objects) e.thread.0 e.tokens.items
     pub made : e.made ≡ change_count e.list.items
+    pub dropped : e.failed ≡ true → e.list.items ≡ []
     pub body : e.failed ≡ false → IsBody (scene_in w.objects) (all_in w.objects) e.thread.0 w.standing.tokens.items e.list.items e.tokens.items

@@ -9,21 +9,23 @@ use cx_names::{ObjectNo, Reply, ThreadNo};
 /// An act on an object, by the forms of which a thread makes an item.
 #[derive(Clone, Copy)]
 pub enum Act {
-    /// Waits for a plain mutex, and locks it.
+    /// Waits for a plain mutex, and locks it [thread.mutex.requirements].
     Lock,
-    /// Waits for a recursive mutex, and locks it unless the thread has the most levels.
+    /// Waits for a recursive mutex, and locks it unless the thread has the most levels
+    /// [thread.mutex.recursive].
     LockLevel,
     /// Locks a mutex if it may.
     TryLock,
     /// Gives a mutex, or a level of it, back.
     Unlock,
-    /// Adds to a semaphore's counter unless it would exceed its greatest value.
+    /// Adds so much, at most 65,535, to a semaphore's counter unless it would exceed its greatest value
+    /// [thread.sema.cnt].
     Release(u32),
     /// Waits for a semaphore's counter, and takes one from it.
     Acquire,
     /// Takes one from a semaphore's counter if it may.
     TryAcquire,
-    /// Takes from a latch's counter.
+    /// Takes so much, at most 65,535, from a latch's counter [thread.latch.class].
     CountDown(u32),
     /// Waits for a latch.
     WaitLatch,
@@ -36,9 +38,9 @@ pub enum Act {
 pub enum Next {
     /// An act on this object.
     Acts(ObjectNo, Act),
-    /// The start of this thread, or that there is none to be had.
+    /// The start of this thread, or that there is none to be had [thread.thread.constr].
     Starts(ThreadNo),
-    /// The join of this thread.
+    /// The join of this thread [thread.thread.member].
     Joins(ThreadNo),
     /// The reply of a call.
     Replies(Reply),

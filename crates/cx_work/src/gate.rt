@@ -2,12 +2,12 @@
 use cx_names::ThreadNo;
 
 /// Called before and after each call of a thread's text, on the thread that makes it. Threads share a gate
-/// that is `Send` and `Sync`.
+/// that is `Send` and `Sync`. A gate may wait, and then so does the thread.
 pub trait Gate: Drop + 'static {
     /// Thread `thread` is about to make call `call` of its text, counted from 0.
     fn before(&self, thread: ThreadNo, call: u32);
 
-    /// Thread `thread` has made call `call` of its text.
+    /// Thread `thread` has made call `call` of its text, counted from 0.
     fn after(&self, thread: ThreadNo, call: u32);
 }
 

@@ -19,6 +19,7 @@ use std::sync::Arc;
 /// Each thread's tokens, main's first.
 #[derive(Drop)]
 pub struct Passes {
+    /// By the number of the thread, and then by that of the object.
     pub threads: Vec<Vec<Token>>,
 }
 
@@ -188,9 +189,15 @@ fn all_of(
 impl Objects {
     ghost use Rattle.cx_work.specs.Bodies.{scene_in, all_in};
 
-    /// The objects of a scenario, and for each thread a token of each object that may make 131,072
-    /// changes. A thread's share of a latch is what its own text takes from it; what is left stays with
+    /// The objects of a scenario as it declares them, and for each thread a token of each object that may
+    /// make 131,072 changes [thread.mutex.requirements, thread.sema.cnt, thread.latch.class]. A thread's
+    /// share of a latch is what its own text takes from it, as far as main has it; what is left stays with
     /// main.
+    ///
+    /// `plan` has 1 to 64 threads, all plain. Its objects are mutexes without numbers, recursive mutexes,
+    /// semaphores and latches, its calls are on these or start and join, and it has no callbacks. A
+    /// semaphore's greatest value is 1 to 65,535 and its count at most that; a latch's count is at most
+    /// 65,535. `NoMemory` where memory doesn't suffice.
     pub fn make(alloc: Global, plan: &Plan) -> Result<(Objects, Passes), NoMemory>
         requires now { IsRunNow (scene_of plan.now) }
         requires threads { (1 ≤ vec_len plan.now.threads) × (vec_len plan.now.threads ≤ 64) }

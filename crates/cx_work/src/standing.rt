@@ -25,8 +25,11 @@ const FORMS: usize = 3;
 /// Where a thread stands in its body, its tokens, and the list of the items that it has made.
 #[derive(Drop)]
 pub struct Standing {
+    /// The thread's number.
     pub thread: ThreadNo,
+    /// What the thread has of each object, by its number.
     pub tokens: Vec<Token>,
+    /// What the thread has made so far, in its order.
     pub list: Vec<Item>,
     pub(crate) local: Local,
     pub(crate) forms: Vec<Form>,
@@ -37,7 +40,9 @@ pub struct Standing {
 impl Standing {
     ghost use Rattle.cx_work.specs.Steps.{StepsOn, is_made_alone, IsNext, IsAt};
 
-    /// The thread at the start of its body, with these tokens and room for so many items.
+    /// Thread `thread` of the scenario at the start of its body [thread.thread.constr], with these tokens,
+    /// and with a list for `room` items: `room_for` tells how many to have. `NoMemory` where memory doesn't
+    /// suffice.
     pub fn start(
         alloc: Global,
         plan: &Plan,
@@ -60,8 +65,8 @@ impl Standing {
         })
     }
 
-    /// What the thread's next item is to be; none where its body has ended. After an error the
-    /// thread makes no further item.
+    /// What the thread's next item is to be; none where its body has ended. `plan` is the scenario in whose
+    /// body the thread stands. After `NoMemory` the thread makes no further item.
     pub fn next(&mut self, plan: &Plan) -> Result<Option<Next>, NoMemory>
         ensures same { (self.new.thread ≡ self.old.thread) × (self.new.tokens ≡ self.old.tokens) × (self.new.list ≡ self.old.list) × (self.new.local ≡ self.old.local) }
         ensures next { IfOk result (λ n. IsNext (scene_of plan.now) self.old.thread.0 (local_of (scene_of plan.now) self.old.thread.0 self.old.local) n) }
@@ -76,8 +81,13 @@ impl Standing {
         }
     }
 
-    /// Makes the item that is next, and puts it into the list. A start or a join isn't made here.
-    /// After an error the thread makes no further item.
+    /// Makes the item that is next by the object's own call, puts it into the list, and gives it. May wait
+    /// for other threads where that call may [thread.mutex.requirements, thread.sema.cnt,
+    /// thread.latch.class].
+    ///
+    /// `objects` are those of `plan`, of which the thread has its tokens, and `next` is what `next` gave
+    /// where the thread stands. `NoMemory` where memory doesn't suffice, and for a start or a join, which
+    /// aren't made here. The thread makes no further item then.
     pub fn make<R: Wait>(
         &mut self,
         rt: &R,
@@ -133,8 +143,12 @@ impl Standing {
         }
     }
 
-    /// Puts an item into the list, which the thread has made where it stands. After an error the
-    /// thread makes no further item.
+    /// Puts an item into the list that was made elsewhere, as main's starts and joins
+    /// [thread.thread.constr, thread.thread.member].
+    ///
+    /// `item` is of a form that the text offers where the thread stands, and one that the thread may have in
+    /// a record; `plan` is the scenario, which has no barriers. After `NoMemory` the thread makes no further
+    /// item.
     pub fn take(&mut self, plan: &Plan, item: Item) -> Result<(), NoMemory>
         requires at { IsAt (scene_of plan.now) self.old }
         requires fits { is_of_one (scene_of plan.now) (map form_of (offered (scene_of plan.now) self.old.thread.0 (local_of (scene_of plan.now) self.old.thread.0 self.old.local))) item ≡ true }
@@ -150,7 +164,8 @@ impl Standing {
         Ok(())
     }
 
-    /// Calls the gate where the next item is the first of a call of the text.
+    /// Calls the gate where the next item is the first of a call of the text. Waits as long as the gate
+    /// does.
     pub fn enter<G: Gate>(&mut self, plan: &Plan, gate: &G)
         ensures { (self.new.thread ≡ self.old.thread) × (self.new.tokens ≡ self.old.tokens) × (self.new.list ≡ self.old.list) × (self.new.local ≡ self.old.local) }
     {
@@ -160,7 +175,8 @@ impl Standing {
         }
     }
 
-    /// Calls the gate where the item is the reply of a call.
+    /// Calls the gate where `item`, the last one made, is the reply of a call. Waits as long as the gate
+    /// does.
     pub fn leave<G: Gate>(&mut self, gate: &G, item: &Item)
         ensures { (self.new.thread ≡ self.old.thread) × (self.new.tokens ≡ self.old.tokens) × (self.new.list ≡ self.old.list) × (self.new.local ≡ self.old.local) }
     {
@@ -171,7 +187,8 @@ impl Standing {
         }
     }
 
-    /// Unlocks what the thread holds, without an item.
+    /// Unlocks what the thread holds of these objects, without an item, as far as its tokens may still make
+    /// changes [thread.mutex.requirements]. For a thread that makes no further item.
     pub fn give_up<R: Wait>(&mut self, rt: &R, objects: &[RunObject])
         requires { AreTokens objects.now self.old.thread.0 self.old.tokens.items }
         ensures thread { self.new.thread ≡ self.old.thread }

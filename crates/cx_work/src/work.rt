@@ -1,6 +1,6 @@
 //! The job of a thread: its body on real objects.
-ghost use Rattle.std.specs.Prelude.{◌≡◌, ◌≤◌, ◌∷◌, [], IfOk, OnOk, true, false};
-ghost use Rattle.cx_scene.specs.Scene.{scene_of};
+ghost use Rattle.std.specs.Prelude.{◌≡◌, ◌≤◌, ◌∷◌, ◌+◌, ◌*◌, [], IfOk, OnOk, true, false, length, vec_len};
+ghost use Rattle.cx_scene.specs.Scene.{scene_of, body_of};
 ghost use Rattle.cx_items.specs.Next.{is_ended};
 ghost use Rattle.cx_items.specs.Steps.{local_of};
 ghost use Rattle.cx_fronts.specs.Counts.{change_count};
@@ -22,27 +22,37 @@ use std::sync::{Arc, Wait};
 // How many items a call makes, but for waits and locks that begin again; and how many acts a body's end makes on an object.
 const ITEMS_OF_A_CALL: usize = 8;
 
-/// A thread's body with its tokens, and with handles of the objects and the gate.
+/// A thread's body as a job [thread.thread.class]. `new` makes one that is fit to run.
 #[derive(Drop)]
 pub struct Work<G: Gate + Send + Sync> {
+    /// The thread at the start of its body, with its tokens.
     pub standing: Standing,
+    /// The objects, and the scenario.
     pub objects: Objects,
+    /// What is called round each call of the text.
     pub gate: Arc<G, Global>,
 }
 
-/// What a thread's body gives: its list, its tokens, how many changes it made, and whether memory ran
-/// out before its end.
+/// What a thread's body gives.
 #[derive(Drop)]
 pub struct Ended {
+    /// The thread's number.
     pub thread: ThreadNo,
+    /// The items of the whole body in their order, empty where memory ran out.
     pub list: Vec<Item>,
+    /// What the thread has of each object, by its number.
     pub tokens: Vec<Token>,
+    /// How many changes the list tells of, so 0 where memory ran out.
     pub made: u64,
+    /// Whether memory ran out before the body's end.
     pub failed: bool,
 }
 
-/// Room for the items of a body.
-fn room_for(plan: &Plan, thread: ThreadNo) -> Result<usize, NoMemory> {
+/// How many items to reserve for the body of thread `thread`, which is one of the plan's: eight for each
+/// call of its text, and one for each object. `NoMemory` where there are more than a list may have.
+pub fn room_for(plan: &Plan, thread: ThreadNo) -> Result<usize, NoMemory>
+    ensures { IfOk result (λ room. room ≡ length (body_of (scene_of plan.now) thread.0) * 8 + vec_len plan.now.objects) }
+{
     let calls = plan.body(thread).len().checked_mul(ITEMS_OF_A_CALL);
     let room = calls.ok_or(NoMemory)?.checked_add(plan.objects.len());
     room.ok_or(NoMemory)
@@ -99,8 +109,11 @@ fn make_all<R: Wait, G: Gate>(
 impl<G: Gate + Send + Sync> Work<G> {
     ghost use Rattle.cx_work.specs.Bodies.{Needs, scene_in, all_in};
 
-    /// The body of a thread with these tokens. All memory is taken here, but what calls that begin
-    /// again take.
+    /// The body of thread `thread` of the scenario, with that thread's tokens of these objects, one for
+    /// each. `gate` is called round each call of its text.
+    ///
+    /// `NoMemory` where memory doesn't suffice. The list's room is taken here; a call that begins again, a
+    /// level of a recursive mutex and the place in the text take more as the body runs.
     pub fn new(
         alloc: Global,
         objects: Objects,
@@ -138,6 +151,7 @@ fn make_body<R: Wait, G: Gate>(
     ensures thread { result.thread ≡ standing.thread }
     ensures tokens { AreTokens objects.now result.thread.0 result.tokens.items }
     ensures made { result.made ≡ change_count result.list.items }
+    ensures dropped { result.failed ≡ true → result.list.items ≡ [] }
     ensures body { result.failed ≡ false → IsBody (scene_of plan.now) objects.now result.thread.0 standing.tokens.items result.list.items result.tokens.items }
 {
     match make_all(rt, plan, objects, &mut standing, gate) {
@@ -149,7 +163,8 @@ fn make_body<R: Wait, G: Gate>(
     }
 }
 
-/// The body of a thread as a job: it makes the calls of the body and the acts of its end, and may wait.
+/// The body of a thread as a job: it makes the calls of the body and the acts of its end. It may wait for
+/// other threads wherever a call of its text may.
 impl<G: Gate + Send + Sync> Job for Work<G> {
     ghost use Rattle.cx_work.specs.Bodies.{Needs, Gives};
 
@@ -175,21 +190,25 @@ impl<G: Gate + Send + Sync> Job for Work<G> {
     }
 }
 
-/// What a body gives that stands here.
+/// What a body gives that stands here. Its list is dropped where it failed.
 fn end(standing: Standing, failed: bool) -> Ended
     ensures thread { result.thread ≡ standing.thread }
     ensures tokens { result.tokens ≡ standing.tokens }
-    ensures list { result.list ≡ standing.list }
-    ensures made { result.made ≡ change_count standing.list.items }
+    ensures list { failed ≡ false → result.list ≡ standing.list }
+    ensures dropped { failed ≡ true → result.list.items ≡ [] }
+    ensures made { result.made ≡ change_count result.list.items }
     ensures failed { result.failed ≡ failed }
 {
-    let made = change_count(standing.list.as_slice());
     let Standing {
         thread,
         tokens,
-        list,
+        mut list,
         ..
     } = standing;
+    if failed {
+        list.clear();
+    }
+    let made = change_count(list.as_slice());
     Ended {
         thread,
         list,
