@@ -1,5 +1,5 @@
 -- What a check finds of a text, from what is found of its parts.
-use Rattle.std.proofs.Common.{◌≡◌, ℕ, ◌+◌, ◌-◌, ◌≤◌, ◌^◌, List, [], take, drop, length, Option, Some, None, refl, sym, ap, subst, ◌∙◌, inl, inr}
+use Rattle.std.proofs.Common.{◌≡◌, ℕ, ◌+◌, ◌-◌, List, take, drop, Option, Some, None, refl, sym, ap, subst, ◌∙◌, inl, inr}
 use Rattle.std.specs.Prelude.{IfSome, IfOk, Result, Ok, Err, ◌≢◌}
 use Rattle.cx_names.specs.declared.errors.NoMemory.{NoMemory}
 use Rattle.cx_io.specs.Edge.{IsRead}
@@ -12,14 +12,13 @@ use Rattle.cx_scenario.specs.Front.{front_lines, IsFront}
 use Rattle.cx_history.specs.declared.flaw.Flaw.{Flaw}
 use Rattle.cx_history.specs.Histories.{Recorded}
 use Rattle.cx_history.specs.IsRecord.{IsRecord}
-use Rattle.cx_history.specs.Flaw.{first_flaw, FlawlessIsLegal}
+use Rattle.cx_history.specs.Flaw.{first_flaw}
 use Rattle.cx_history.proofs.Sound.{sound}
-use Rattle.cx_record.specs.Parsed.{record_meaning}
 use Rattle.cx_record.specs.Checked.{Checked, whole_meaning}
 use Rattle.cx_record.proofs.Checkings.{whole_found, whole_bad}
 use Rattle.cxthread.specs.FaultLine.{fault_line}
 use Rattle.cxthread.specs.Top.{OfRead}
-use Rattle.cxthread.specs.Checks.{input_limit, legal_line, IsFoundLegal, IsFoundIllegal, IsFoundFaulty, status_of, CompletesCheck, CompletesCheckFault}
+use Rattle.cxthread.specs.Checks.{input_limit, IsFoundLegal, IsFoundIllegal, IsFoundFaulty, status_of, CompletesCheck, CompletesCheckFault}
 use Rattle.cxthread.specs.Findings.{IsFlawless, FindsRest, FindsText}
 use Rattle.cxthread.specs.declared.checking.Finding.{Finding}
 use Rattle.cxthread.specs.declared.checking.Finding.TheVariants as findings
@@ -108,23 +107,25 @@ never_illegal : (left : Option (List ℕ)) (W : List ℕ → Type 0) (text : Lis
 never_illegal left W text f told means h = ok_err h.says.checked f (one_meaning left h.bytes text (ok_of h.says.checked) (err_of f) told h.read h.says.means means)
 
 pub completes_check : (left : Option (List ℕ)) (W V U : List ℕ → Type 0) (r : Status) → (r ≡ status.Done → OfRead input_limit left IsFoundLegal W) → (r ≡ status.Illegal → OfRead input_limit left IsFoundIllegal V)
-    → (r ≡ status.BadScenario → OfRead input_limit left IsFoundFaulty U) → (r ≡ status.ReadFault → ⊥) → (r ≡ status.WriteFault → ⊥) → (r ≢ status.BadWords) → (r ≢ status.Stuck) → CompletesCheck left r
-completes_check left W V U status.Done done illegal faulty rf wf bw st = λ text x told means. inl (is_done left W text x told means (done refl))
-completes_check left W V U status.Illegal done illegal faulty rf wf bw st = λ text x told means. inl (is_illegal left V text x told means (illegal refl))
-completes_check left W V U status.BadScenario done illegal faulty rf wf bw st = λ text x told means. absurd (never_faulty left U text x told means (faulty refl))
-completes_check left W V U status.NoMemory done illegal faulty rf wf bw st = λ text x told means. inr refl
-completes_check left W V U status.ReadFault done illegal faulty rf wf bw st = absurd (rf refl)
-completes_check left W V U status.WriteFault done illegal faulty rf wf bw st = absurd (wf refl)
-completes_check left W V U status.BadWords done illegal faulty rf wf bw st = absurd (bw refl)
-completes_check left W V U status.Stuck done illegal faulty rf wf bw st = absurd (st refl)
+    → (r ≡ status.BadScenario → OfRead input_limit left IsFoundFaulty U) → (r ≡ status.ReadFault → ⊥) → (r ≡ status.WriteFault → ⊥) → (r ≢ status.BadWords) → (r ≢ status.Stuck) → (r ≢ status.NotBuilt) → CompletesCheck left r
+completes_check left W V U status.Done done illegal faulty rf wf bw st nb = λ text x told means. inl (is_done left W text x told means (done refl))
+completes_check left W V U status.Illegal done illegal faulty rf wf bw st nb = λ text x told means. inl (is_illegal left V text x told means (illegal refl))
+completes_check left W V U status.BadScenario done illegal faulty rf wf bw st nb = λ text x told means. absurd (never_faulty left U text x told means (faulty refl))
+completes_check left W V U status.NoMemory done illegal faulty rf wf bw st nb = λ text x told means. inr refl
+completes_check left W V U status.ReadFault done illegal faulty rf wf bw st nb = absurd (rf refl)
+completes_check left W V U status.WriteFault done illegal faulty rf wf bw st nb = absurd (wf refl)
+completes_check left W V U status.BadWords done illegal faulty rf wf bw st nb = absurd (bw refl)
+completes_check left W V U status.Stuck done illegal faulty rf wf bw st nb = absurd (st refl)
+completes_check left W V U status.NotBuilt done illegal faulty rf wf bw st nb = absurd (nb refl)
 
 pub completes_check_fault : (left : Option (List ℕ)) (W V U : List ℕ → Type 0) (r : Status) → (r ≡ status.Done → OfRead input_limit left IsFoundLegal W) → (r ≡ status.Illegal → OfRead input_limit left IsFoundIllegal V)
-    → (r ≡ status.WriteFault → OfRead input_limit left IsFoundLegal U) → (r ≡ status.ReadFault → ⊥) → (r ≢ status.BadWords) → (r ≢ status.Stuck) → CompletesCheckFault left r
-completes_check_fault left W V U status.Done done illegal written rf bw st = λ text f told means. absurd (never_legal left W text f told means (done refl))
-completes_check_fault left W V U status.Illegal done illegal written rf bw st = λ text f told means. absurd (never_illegal left V text f told means (illegal refl))
-completes_check_fault left W V U status.WriteFault done illegal written rf bw st = λ text f told means. absurd (never_legal left U text f told means (written refl))
-completes_check_fault left W V U status.BadScenario done illegal written rf bw st = λ text f told means. inl refl
-completes_check_fault left W V U status.NoMemory done illegal written rf bw st = λ text f told means. inr refl
-completes_check_fault left W V U status.ReadFault done illegal written rf bw st = absurd (rf refl)
-completes_check_fault left W V U status.BadWords done illegal written rf bw st = absurd (bw refl)
-completes_check_fault left W V U status.Stuck done illegal written rf bw st = absurd (st refl)
+    → (r ≡ status.WriteFault → OfRead input_limit left IsFoundLegal U) → (r ≡ status.ReadFault → ⊥) → (r ≢ status.BadWords) → (r ≢ status.Stuck) → (r ≢ status.NotBuilt) → CompletesCheckFault left r
+completes_check_fault left W V U status.Done done illegal written rf bw st nb = λ text f told means. absurd (never_legal left W text f told means (done refl))
+completes_check_fault left W V U status.Illegal done illegal written rf bw st nb = λ text f told means. absurd (never_illegal left V text f told means (illegal refl))
+completes_check_fault left W V U status.WriteFault done illegal written rf bw st nb = λ text f told means. absurd (never_legal left U text f told means (written refl))
+completes_check_fault left W V U status.BadScenario done illegal written rf bw st nb = λ text f told means. inl refl
+completes_check_fault left W V U status.NoMemory done illegal written rf bw st nb = λ text f told means. inr refl
+completes_check_fault left W V U status.ReadFault done illegal written rf bw st nb = absurd (rf refl)
+completes_check_fault left W V U status.BadWords done illegal written rf bw st nb = absurd (bw refl)
+completes_check_fault left W V U status.Stuck done illegal written rf bw st nb = absurd (st refl)
+completes_check_fault left W V U status.NotBuilt done illegal written rf bw st nb = absurd (nb refl)

@@ -7,7 +7,6 @@ use Rattle.cx_script.specs.Numbered.{numbered}
 use Rattle.cx_history.specs.declared.flaw.Flaw.{Flaw}
 use Rattle.cx_history.specs.declared.flaw.Cause.{Cause}
 use Rattle.cx_history.specs.declared.flaw.Cause.TheVariants as causes
-use Rattle.cx_history.specs.Histories.{Recorded}
 use Rattle.cx_history.specs.Legal.{LegalRecord}
 use Rattle.cx_history.specs.Follows.{Follows}
 use Rattle.cx_history.specs.Flaw.{first_flaw}

@@ -13,3 +13,4 @@ exit_number status.ReadFault = 4
 exit_number status.WriteFault = 5
 exit_number status.Stuck = 7
 exit_number status.NoMemory = 8
+exit_number status.NotBuilt = 9

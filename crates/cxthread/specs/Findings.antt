@@ -1,5 +1,5 @@
 -- What a check finds in a text before anything is written.
-use Rattle.std.specs.Prelude.{◌≡◌, ℕ, List, Option, Some, None, Result, Ok, Err}
+use Rattle.std.specs.Prelude.{◌≡◌, ℕ, List, Some, None, Ok, Err}
 use Rattle.cx_text.specs.declared.fault.Fault.{Fault}
 use Rattle.cx_script.specs.Script.{Script}
 use Rattle.cx_script.specs.Numbered.{numbered}

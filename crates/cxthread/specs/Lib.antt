@@ -7,4 +7,6 @@ pub mod Answers
 pub mod Complete
 pub mod Checks
 pub mod Findings
+pub mod Built
+pub mod Running
 pub mod Commanded

@@ -1,5 +1,5 @@
 -- What the program promises of its replay.
-use Rattle.std.specs.Prelude.{◌≡◌, ◌≢◌, ◌⊎◌, ℕ, List, [], ◌++◌, Option, Some, IfSome, Ok, Err, codes}
+use Rattle.std.specs.Prelude.{◌≡◌, ◌≢◌, ◌⊎◌, ℕ, List, [], ◌++◌, Option, IfSome, Ok, Err, codes}
 use Rattle.cx_io.specs.Edge.{IsRead, Extends, Rose}
 use Rattle.cx_text.specs.declared.fault.Fault.{Fault}
 use Rattle.cx_script.specs.Script.{Script, meaning}

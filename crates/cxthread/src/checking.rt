@@ -115,6 +115,7 @@ fn check_source<R: Source, K: Sink>(alloc: Global, source: &mut R, sink: &mut K)
     ensures no_memory { result ≡ Status.NoMemory → K.taken sink.new ≡ K.taken sink.old }
     ensures no_bad_words { result ≢ Status.BadWords }
     ensures no_stuck { result ≢ Status.Stuck }
+    ensures no_not_built { result ≢ Status.NotBuilt }
 {
     let bytes = match read_all(alloc, source, INPUT_LIMIT) {
         Ok(bytes) => bytes,
@@ -166,6 +167,7 @@ pub fn check_call<R: Source, K: Sink>(alloc: Global, source: &mut R, sink: &mut 
     ensures no_memory { result ≡ Status.NoMemory → K.taken sink.new ≡ K.taken sink.old }
     ensures no_bad_words { result ≢ Status.BadWords }
     ensures no_stuck { result ≢ Status.Stuck }
+    ensures no_not_built { result ≢ Status.NotBuilt }
 
     // It gives up for no other cause.
     ensures complete { (Rose (R.faults source.old) (R.faults source.new) → ⊥) → (Rose (K.faults sink.old) (K.faults sink.new) → ⊥)

@@ -5,6 +5,8 @@ ghost use Rattle.cxthread.specs.Words.{seed_of, value_from};
 /// What the words ask for.
 #[derive(Clone, Copy, Debug, PartialEq, Eq)]
 pub enum Command {
+    /// To run a scenario on real threads.
+    Run,
     /// To replay a scenario, with a seed for the choice among enabled threads or with the first one always.
     Replay(Option<u64>),
     /// To check a record of a scenario.
@@ -48,6 +50,7 @@ impl Command {
         ensures { result ≡ command_of (map string_bytes words.now) }
     {
         match words {
+            [word] if word.as_str() == "run" => Some(Command::Run),
             [word] if word.as_str() == "replay" => Some(Command::Replay(None)),
             [word] if word.as_str() == "check" => Some(Command::Check),
             [word, seed] if word.as_str() == "replay" => {

@@ -1,8 +1,8 @@
-//! The program: replays scenario texts and writes what happened in each, and checks such records.
+//! The program: runs scenario texts on real threads or replays them, writes what happened, and checks such records.
 //!
-//! With the word `replay`, and a seed after it or none, a scenario stands on standard input, and standard output gets its
-//! canonical text and a record. With `check` a scenario and a record stand there, and standard output gets the verdict.
-//! The exit status is that of [`Status`].
+//! With the word `run`, or `replay` and a seed after it or none, a scenario stands on standard input, and standard output
+//! gets its canonical text and a record. With `check` a scenario and a record stand there, and standard output gets the
+//! verdict. The exit status is that of [`Status`].
 #![tactic(auto)]
 
 mod checking;
@@ -13,12 +13,15 @@ mod flaw_line;
 mod forged;
 #[cfg(test)]
 mod rows;
+mod running;
+#[cfg(test)]
+mod running_tests;
 mod status;
 #[cfg(test)]
 mod tests;
 mod top;
 
-use cx_io::{StdIn, StdOut};
+use cx_io::{Real, StdIn, StdOut};
 use status::Status;
 use std::process::ExitCode;
 use std::{env, io};
@@ -37,6 +40,14 @@ fn main(rt: HostRuntime) -> ExitCode {
     }
     let mut source = StdIn::new(rt.reader());
     let mut sink = StdOut::new(io::writer(&rt));
-    let status = cxthread(rt.alloc(), &words, &mut source, &mut sink);
+    let mut spawner = Real::new(rt.alloc());
+    let (status, _fronts) = cxthread(
+        &rt,
+        rt.alloc(),
+        &words,
+        &mut source,
+        &mut sink,
+        &mut spawner,
+    );
     ExitCode::from(status.number())
 }

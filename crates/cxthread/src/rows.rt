@@ -481,11 +481,176 @@ pub const NOTHING_TO_ACQUIRE: Row = Row {
       stuck main\n",
 };
 
+/// The front of each record of [`TWO_THREADS`]: main's list.
+pub const TWO_THREADS_MAIN: &[u8] = b"record 1\n\
+  acts main\n\
+  * start a ok\n\
+  = ok\n\
+  * start b ok\n\
+  = ok\n\
+  + q 0 release 2\n\
+  = ok\n\
+  * join a\n\
+  = ok\n\
+  * join b\n\
+  = ok\n\
+  end\n\
+  acts a\n\
+  + q ";
+
+/// Two threads, and what is recorded where the second start is refused.
+pub const REFUSED: Row = Row {
+    scenario: b"cxthread 1\n\
+      thread a\n\
+      thread b\n\
+      body a\n\
+      end\n\
+      body b\n\
+      end\n\
+      main\n\
+      start a\n\
+      start b\n\
+      join a\n\
+      join b\n\
+      end\n",
+    record: b"record 1\n\
+      acts main\n\
+      * start a ok\n\
+      = ok\n\
+      * start b no-thread\n\
+      = no-thread\n\
+      * join a\n\
+      = ok\n\
+      = invalid_argument\n\
+      end\n\
+      acts a\n\
+      end\n\
+      unstarted b\n\
+      done\n",
+};
+
+/// A thread gives a latch's count, for which main waits.
+pub const LATCH: Row = Row {
+    scenario: b"cxthread 1\n\
+      thread a\n\
+      latch l 1\n\
+      body a\n\
+      count_down l 1\n\
+      end\n\
+      main\n\
+      start a\n\
+      wait l\n\
+      try_wait l\n\
+      join a\n\
+      end\n",
+    record: b"record 1\n\
+      acts main\n\
+      * start a ok\n\
+      = ok\n\
+      ? l 1 wait\n\
+      = ok\n\
+      ? l 1 try_wait true\n\
+      = true\n\
+      * join a\n\
+      = ok\n\
+      end\n\
+      acts a\n\
+      + l 0 count_down 1\n\
+      = ok\n\
+      end\n\
+      done\n",
+};
+
+/// Main finds a mutex owned while its owner waits for main, and the owner's end gives the mutex back.
+pub const OWNED: Row = Row {
+    scenario: b"cxthread 1\n\
+      thread a\n\
+      mutex m 0\n\
+      semaphore has 0 1\n\
+      semaphore go 0 1\n\
+      body a\n\
+      lock m\n\
+      lock m\n\
+      release has 1\n\
+      acquire go\n\
+      end\n\
+      main\n\
+      unlock m\n\
+      start a\n\
+      acquire has\n\
+      try_lock m\n\
+      release go 1\n\
+      lock m\n\
+      join a\n\
+      unlock m\n\
+      end\n",
+    record: b"record 1\n\
+      acts main\n\
+      = operation_not_permitted\n\
+      * start a ok\n\
+      = ok\n\
+      + has 1 acquire\n\
+      = ok\n\
+      ? m 1 try_lock false\n\
+      = false\n\
+      + go 0 release 1\n\
+      = ok\n\
+      + m 2 lock\n\
+      = ok\n\
+      * join a\n\
+      = ok\n\
+      + m 3 unlock\n\
+      = ok\n\
+      end\n\
+      acts a\n\
+      + m 0 lock\n\
+      = ok\n\
+      = resource_deadlock_would_occur\n\
+      + has 0 release 1\n\
+      = ok\n\
+      + go 1 acquire\n\
+      = ok\n\
+      + m 1 unlock\n\
+      end\n\
+      done\n",
+};
+
+/// Rows that have one record in every run, and how many objects each has.
+pub const ENDED_BY_ANY: &[(Row, usize)] = &[
+    (ONE_SEMAPHORE, 1),
+    (NO_CALL, 0),
+    (RELEASE_OVER, 1),
+    (LATCH, 1),
+    (OWNED, 3),
+];
+
+/// Declarations that runs aren't built for.
+pub const UNBUILT: &[&[u8]] = &[
+    b"mutex m 1\n",
+    b"mutex m 8\n",
+    b"shared x\n",
+    b"barrier b 1\n",
+    b"barrier b 1 release s 1\n",
+    b"once o\n",
+    b"condition c\n",
+    b"stop st\n",
+    b"stop st main t\n",
+    b"jthread j\n",
+    b"stop st main\ncallback k st release s 1\n",
+    b"promise p t main\n",
+    b"shared_promise p t main\n",
+    b"task f t main return 1\n",
+    b"async f async return 1\n",
+    b"async f deferred throw 1\n",
+];
+
 /// All rows whose replay ends.
 pub const ENDED: &[Row] = &[
     ONE_SEMAPHORE,
     NO_CALL,
     TWO_THREADS,
+    LATCH,
+    OWNED,
     STOP,
     STOP_AGAIN,
     CALLBACK,

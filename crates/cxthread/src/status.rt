@@ -20,6 +20,8 @@ pub enum Status {
     Stuck,
     /// Memory ran out.
     NoMemory,
+    /// The scenario is one that runs aren't built for.
+    NotBuilt,
 }
 
 impl Status {
@@ -36,6 +38,7 @@ impl Status {
             Status::WriteFault => 5,
             Status::Stuck => 7,
             Status::NoMemory => 8,
+            Status::NotBuilt => 9,
         }
     }
 }

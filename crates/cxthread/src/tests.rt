@@ -6,11 +6,13 @@ use crate::rows::{
 };
 use crate::status::Status;
 use crate::top::{cxthread, replay_call};
-use cx_io::{Buffer, Bytes, SureBuffer, SureBytes};
+use cx_io::{Buffer, Bytes, Sure, SureBuffer, SureBytes};
 use cx_names::NoMemory;
 use std::alloc::Global;
 use std::ops::Range;
+use std::sync::Wait;
 use std::test::Fail;
+use std::thread::Threads;
 
 const USAGE: &[u8] = b"usage: cxthread run | replay [SEED] | check | make N | trial N\n";
 
@@ -56,7 +58,8 @@ fn checks(
 }
 
 /// Whether the program, asked with these words, ends with this status, having written this line of this text.
-fn answers(
+pub fn answers<T: Threads + Wait + Copy + Send + 'static>(
+    rt: &T,
     alloc: Global,
     words: &[&str],
     text: Vec<u8>,
@@ -65,8 +68,9 @@ fn answers(
 ) -> Result<bool, Fail> {
     let mut source = SureBytes::new(text, 100);
     let mut sink = SureBuffer::new(Vec::new(alloc), 100);
+    let mut spawner = Sure::new(alloc);
     let words = owned(alloc, words)?;
-    let status = cxthread(alloc, &words, &mut source, &mut sink);
+    let (status, _fronts) = cxthread(rt, alloc, &words, &mut source, &mut sink, &mut spawner);
     Ok(status == wanted && sink.bytes() == line)
 }
 
@@ -95,7 +99,7 @@ fn declared(alloc: Global, form: &[u8], count: u32) -> Result<Vec<u8>, NoMemory>
 }
 
 /// These parts one after the other.
-fn joined(alloc: Global, parts: &[&[u8]]) -> Result<Vec<u8>, NoMemory> {
+pub fn joined(alloc: Global, parts: &[&[u8]]) -> Result<Vec<u8>, NoMemory> {
     let mut text = Vec::new(alloc);
     for part in parts {
         text.extend_from_slice(part)?;
@@ -121,7 +125,7 @@ fn words_of_no_form_are_refused(rt: HostRuntime) -> Result<(), Fail> {
         &["--help"],
     ] {
         let text = ONE_SEMAPHORE.scenario.to_vec(alloc)?;
-        assert!(rt; answers(alloc, words, text, Status::BadWords, USAGE)?);
+        assert!(rt; answers(&rt, alloc, words, text, Status::BadWords, USAGE)?);
     }
     Ok(())
 }
@@ -136,8 +140,9 @@ fn replays_with_and_without_a_seed(rt: HostRuntime) -> Result<(), Fail> {
     ] {
         let mut source = SureBytes::new(TWO_THREADS.scenario.to_vec(alloc)?, 5);
         let mut sink = SureBuffer::new(Vec::new(alloc), 7);
+        let mut spawner = Sure::new(alloc);
         let words = owned(alloc, words)?;
-        let status = cxthread(alloc, &words, &mut source, &mut sink);
+        let (status, _fronts) = cxthread(&rt, alloc, &words, &mut source, &mut sink, &mut spawner);
         assert_eq!(rt; status, Status::Done);
         let mut wanted = TWO_THREADS.scenario.to_vec(alloc)?;
         wanted.extend_from_slice(record)?;
@@ -204,10 +209,10 @@ fn check_is_a_word(rt: HostRuntime) -> Result<(), Fail> {
     let check: &[&str] = &["check"];
     let row = ONE_SEMAPHORE;
     let text = joined(alloc, &[row.scenario, row.record])?;
-    assert!(rt; answers(alloc, check, text, Status::Done, b"legal\n")?);
+    assert!(rt; answers(&rt, alloc, check, text, Status::Done, b"legal\n")?);
     for forged in FORGED {
         let text = forged.text.to_vec(alloc)?;
-        assert!(rt; answers(alloc, check, text, forged.status, forged.written)?);
+        assert!(rt; answers(&rt, alloc, check, text, forged.status, forged.written)?);
     }
     Ok(())
 }
@@ -264,14 +269,14 @@ fn each_status_has_its_number(rt: HostRuntime) {
         (Status::WriteFault, 5),
         (Status::Stuck, 7),
         (Status::NoMemory, 8),
+        (Status::NotBuilt, 9),
     ] {
         assert_eq!(rt; status.number(), number);
     }
 }
 
-#[test]
-fn a_recursive_mutex_has_its_levels(rt: HostRuntime) -> Result<(), Fail> {
-    let alloc = rt.alloc();
+/// A recursive mutex that is locked once more than it may be, and its record.
+pub fn all_levels(alloc: Global) -> Result<(Vec<u8>, Vec<u8>), NoMemory> {
     let mut scenario = b"cxthread 1\nrecursive r\nmain\n".to_vec(alloc)?;
     for _ in 0..1_001 {
         scenario.extend_from_slice(b"lock r\n")?;
@@ -282,6 +287,13 @@ fn a_recursive_mutex_has_its_levels(rt: HostRuntime) -> Result<(), Fail> {
     record.extend_from_slice(b"? r 1000 lock max-levels\n= max-levels\n")?;
     put_numbered(alloc, &mut record, b"+ r ", 1_000..2_000, b" unlock\n")?;
     record.extend_from_slice(b"end\ndone\n")?;
+    Ok((scenario, record))
+}
+
+#[test]
+fn a_recursive_mutex_has_its_levels(rt: HostRuntime) -> Result<(), Fail> {
+    let alloc = rt.alloc();
+    let (scenario, record) = all_levels(alloc)?;
     assert!(rt; replays(alloc, None, &scenario, Status::Done, &scenario, &record)?);
     Ok(())
 }
