@@ -10,3 +10,4 @@ pub mod Rows
 pub mod Copying
 pub mod Splits
 pub mod Good
+pub mod Shares

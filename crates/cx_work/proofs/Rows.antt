@@ -13,7 +13,7 @@ use Rattle.cx_work.proofs.Stepping.{at_index, is_within, set_same, set_other}
 
 -- ---- lists
 
-the_same : {A : Type 0} (x y : A) → Some x ≡ Some y → x ≡ y
+pub the_same : {A : Type 0} (x y : A) → Some x ≡ Some y → x ≡ y
 the_same x y e = cc
 
 same_there : {A : Type 0} (x y : A) (o : Option A) → o ≡ Some x → o ≡ Some y → x ≡ y
@@ -35,7 +35,7 @@ set_length [] i v = refl
 set_length (x ∷ xs) zero v = refl
 set_length (x ∷ xs) (suc i) v = ap suc (set_length xs i v)
 
-below : (o n : ℕ) → o < n + 1 → (n ≡ o → ⊥) → o < n
+pub below : (o n : ℕ) → o < n + 1 → (n ≡ o → ⊥) → o < n
 below zero zero low differ = absurd (differ refl)
 below zero (suc n) low differ = omega arith
 below (suc o) zero low differ = absurd (omega (arith, low))
@@ -235,7 +235,7 @@ less_left threads splits room = omega (arith, room)
 
 -- ---- rows, with main's tokens written back as a slice
 
-front_of : {A : Type 0} (xs ys : List A) (n : ℕ) → n ≡ length xs → take n (xs ++ ys) ≡ xs
+pub front_of : {A : Type 0} (xs ys : List A) (n : ℕ) → n ≡ length xs → take n (xs ++ ys) ≡ xs
 front_of xs ys n same = ap (λ k. take k (xs ++ ys)) same ∙ whole xs ys
   where
     whole : {A : Type 0} (xs ys : List A) → take (length xs) (xs ++ ys) ≡ xs

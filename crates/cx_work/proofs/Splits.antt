@@ -1,5 +1,5 @@
 -- New tokens that are split off main's.
-use Rattle.std.proofs.Common.{◌≡◌, ◌+◌, ◌-◌, ℕ, false, List, [], ◌∷◌, Some, None, MatchOption, slice_get, refl, sym, ◌∙◌, subst}
+use Rattle.std.proofs.Common.{◌≡◌, ◌+◌, ◌-◌, ℕ, false, min, arith, ap, List, [], ◌∷◌, Some, None, MatchOption, slice_get, refl, sym, ◌∙◌, subst}
 use Rattle.cx_names.specs.declared.ThreadNo.{ThreadNo}
 use Rattle.cx_machine.specs.Mutex as mutex
 use Rattle.cx_machine.specs.Latch as latch
@@ -22,7 +22,7 @@ use Rattle.cx_work.specs.declared.token.Token.TheVariants as tokens
 use Rattle.cx_work.specs.declared.token.MutexToken.{MutexToken}
 use Rattle.cx_work.specs.declared.token.LevelToken.{LevelToken}
 use Rattle.cx_work.specs.Tokens.{IsMutexToken, IsLevelToken}
-use Rattle.cx_work.specs.RunNow.{IsNew, IsNewToken}
+use Rattle.cx_work.specs.RunNow.{IsNew, IsNewToken, share_of}
 use Rattle.cx_work.proofs.Rows.{left_is_new, right_is_new}
 
 -- ---- mutexes
@@ -130,3 +130,28 @@ latch_right x l a b k p p1 p2 q1 q2 seats left splits calls n is_x is_k is_a is_
     let taker : IsNew w seats (splits + 1) calls 0 = right_is_new new_.0 seats 0 left splits calls new_.2 in
     let made : LatchNew l seats (splits + 1) calls 0 q2 = (given w v n, gave.1 v w (split.0 new_.0 new_.1) (split.1 new_.0 new_.1), given_is_new w v seats (splits + 1) 0 calls (left - calls) 0 (splits + 1) n taker giver) in
     subst (λ (y : RunObject). IsNewToken y seats (splits + 1) calls 0 (tokens.Latch q2)) (sym is_x) made
+
+-- what a latch's pass has of the count, once main's was split and gave
+less_given : (s m n : ℕ) → n ≡ min m s → s - n ≡ s - m
+less_given s m n is = omega (arith, is)
+
+pub latch_shares : (x : RunObject) (l : CachePadded Latch) (a b : Latch) (k : Token) (p p1 p2 q1 q2 : Pass latch.Latch) (seats left splits calls n m r : ℕ) → x ≡ mades.Latch l → k ≡ tokens.Latch p → a ≡ padded_value l → b ≡ padded_value l → IsNewToken x seats 0 left splits k → Splits a p p1 q1 calls → Gives b p1 q1 p2 q2 n → r ≡ p1.share → n ≡ min m r → (p2.share ≡ share_of k - m) × (q2.share ≡ min m (share_of k))
+latch_shares x l a b k p p1 p2 q1 q2 seats left splits calls n m r is_x is_k is_a is_b new splits_ gives read is =
+    let new_ = latch_in x l k p seats 0 left splits is_x is_k new in
+    let split = subst (λ (y : Latch). Splits y p p1 q1 calls) is_a splits_ in
+    let gave = subst (λ (y : Latch). Gives y p1 q1 p2 q2 n) is_b gives in
+    let v = split_left new_.0 calls in
+    let w = split_right new_.0 calls in
+    let at_v = split.0 new_.0 new_.1 in
+    let at_w = split.1 new_.0 new_.1 in
+    let had : new_.0.share ≡ p.share = new_.1.counted.part in
+    let first : new_.0.share ≡ p1.share = at_v.counted.part in
+    let less : new_.0.share - n ≡ p2.share = (gave.0 v at_v).counted.part in
+    let more : 0 + n ≡ q2.share = (gave.1 v w at_v at_w).counted.part in
+    let shared : share_of k ≡ p.share = ap share_of is_k in
+    let same : r ≡ share_of k = read ∙ (sym first ∙ (had ∙ sym shared)) in
+    let is' : n ≡ min m (share_of k) = subst (λ j. n ≡ min m j) same is in
+    let whole : new_.0.share ≡ share_of k = had ∙ sym shared in
+    let taken : share_of k - n ≡ p2.share = subst (λ j. j - n ≡ p2.share) whole less in
+    let given_ : n ≡ q2.share = omega (arith, more) in
+    (sym taken ∙ less_given (share_of k) m n is', sym given_ ∙ is')

@@ -1,5 +1,5 @@
 -- Which scenarios are run on real objects.
-use Rattle.std.specs.Prelude.{◌≡◌, ℕ, ◌==◌, ◌&&◌, Bool, true, false, List, ◌-◌, ◌<◌, [], length, slice_get, Some, None, nat_le}
+use Rattle.std.specs.Prelude.{◌≡◌, ℕ, min, zero, suc, ◌==◌, ◌&&◌, ◌+◌, Bool, true, false, if◌then◌else◌, List, ◌∷◌, ◌-◌, ◌<◌, [], length, slice_get, Some, None, nat_le}
 use Rattle.std.specs.Global.{Vec}
 use Rattle.std.specs.List.{list_all}
 use Rattle.cx_scene.specs.declared.declared.Object.{Object}
@@ -8,7 +8,7 @@ use Rattle.cx_scene.specs.declared.declared.Thread.{Thread}
 use Rattle.cx_scene.specs.declared.declared.Thread.TheVariants as threads
 use Rattle.cx_scene.specs.declared.call.Call.{Call}
 use Rattle.cx_scene.specs.declared.call.Call.TheVariants as calls
-use Rattle.cx_scene.specs.Scene.{Scene}
+use Rattle.cx_scene.specs.Scene.{Scene, body_of}
 use Rattle.cx_turn.specs.declared.view.View.{View}
 use Rattle.crossbeam_utils.specs.Padded.{padded_value}
 use Rattle.cx_machine.specs.Mutex as mutex
@@ -92,3 +92,54 @@ pub record AreAllNew (xs : List RunObject) (threads : ℕ) (all : List (Vec Toke
   pub count : length all ≡ threads
   pub main : (ks : Vec Token) → slice_get all 0 ≡ Some ks → AreNew xs threads 0 131072 (threads - 1) ks.items
   pub others : (t : ℕ) (ks : Vec Token) → 0 < t → slice_get all t ≡ Some ks → AreNew xs threads t 131072 0 ks.items
+
+-- ---- shares of latches
+
+-- how much of the counter of latch o a call takes
+abbrev pub takes_of : ℕ → Call → ℕ
+takes_of o (calls.CountDown l n) = if l.0 == o then n else 0
+takes_of o (calls.ArriveAndWaitLatch l) = if l.0 == o then 1 else 0
+takes_of o _ = 0
+
+abbrev pub takings : ℕ → List Call → ℕ
+takings o [] = 0
+takings o (c ∷ cs) = takes_of o c + takings o cs
+
+-- how much of it the text of thread t takes
+abbrev pub taken_in : Scene → ℕ → ℕ → ℕ
+taken_in s t o = takings o (body_of s t)
+
+-- a token's share of its latch
+abbrev pub share_of : Token → ℕ
+share_of (tokens.Latch p) = p.share
+share_of _ = 0
+
+abbrev pub count_of : Object → ℕ
+count_of (objects.Latch count) = count
+count_of _ = 0
+
+-- the share of the token at a place, and the count of the latch that is declared there; 0 where there is none
+abbrev pub share_at : List Token → ℕ → ℕ
+share_at [] o = 0
+share_at (k ∷ ks) zero = share_of k
+share_at (k ∷ ks) (suc o) = share_at ks o
+
+abbrev pub count_at : List Object → ℕ → ℕ
+count_at [] o = 0
+count_at (d ∷ ds) zero = count_of d
+count_at (d ∷ ds) (suc o) = count_at ds o
+
+-- what main has of latch o once the first n other threads have got their shares
+abbrev pub left_with_main : Scene → ℕ → ℕ → ℕ
+left_with_main s zero o = count_at s.objects o
+left_with_main s (suc n) o = left_with_main s n o - taken_in s (suc n) o
+
+-- thread t got of each latch what its text takes, as far as main had it
+pub record AreGiven (s : Scene) (t : ℕ) (before main row : List Token) : Type 0 where
+  pub less : (o : ℕ) → share_at main o ≡ share_at before o - taken_in s t o
+  pub given : (o : ℕ) → share_at row o ≡ min (taken_in s t o) (share_at before o)
+
+-- each thread has of each latch what its text takes, as far as main had it, and main has what is left
+pub record AreShared (s : Scene) (all : List (Vec Token)) : Type 0 where
+  pub main : (ks : Vec Token) → slice_get all 0 ≡ Some ks → (o : ℕ) → share_at ks.items o ≡ left_with_main s (length all - 1) o
+  pub others : (t : ℕ) (ks : Vec Token) → slice_get all (suc t) ≡ Some ks → (o : ℕ) → share_at ks.items o ≡ min (taken_in s (suc t) o) (left_with_main s t o)

@@ -1,8 +1,8 @@
 //! Making the objects of a scenario, and each thread's tokens.
-ghost use Rattle.std.specs.Prelude.{◌≡◌, ◌≤◌, ◌<◌, ◌+◌, ◌-◌, ◌*◌, ◌^◌, ℕ, true, length, slice_get, Some, vec_len, IfOk, OnOk};
+ghost use Rattle.std.specs.Prelude.{◌≡◌, ◌≤◌, ◌<◌, ◌+◌, ◌-◌, ◌*◌, ◌^◌, ℕ, min, true, length, slice_get, Some, vec_len, IfOk, OnOk};
 ghost use Rattle.std.specs.List.{list_all};
 ghost use Rattle.cx_scene.specs.Scene.{scene_of};
-ghost use Rattle.cx_work.specs.RunNow.{IsRunNow, is_object_now, IsNewToken, AreNew, AreAllNew};
+ghost use Rattle.cx_work.specs.RunNow.{IsRunNow, is_object_now, IsNewToken, AreNew, AreAllNew, share_of, share_at, count_of, count_at, taken_in, takes_of, takings, AreGiven, AreShared};
 ghost use Rattle.cx_work.specs.Tokens.{IsMadeAs, AreMadeAs};
 
 use crate::copies::copy_of;
@@ -29,6 +29,7 @@ fn made_of(alloc: Global, object: &Object, threads: u32) -> Result<(RunObject, T
     requires threads { (1 ≤ threads) × (threads ≤ 64) }
     ensures object { IfOk result (λ r. IsMadeAs object.now r.0) }
     ensures token { IfOk result (λ r. IsNewToken r.0 threads 0 (131072 * threads) 0 r.1) }
+    ensures share { IfOk result (λ r. share_of r.1 ≡ count_of object.now) }
 {
     let calls = PASS_CHANGES * threads;
     match object {
@@ -74,23 +75,24 @@ fn object_at(o: usize) -> Result<ObjectNo, NoMemory>
     Ok(ObjectNo(u32::try_from(o).ok().ok_or(NoMemory)?))
 }
 
-/// How much of the counter of latch `o` the text of thread `t` takes.
-fn taken_by(plan: &Plan, t: ThreadNo, o: ObjectNo) -> u32 {
+/// How much of the counter of latch `o` a call takes.
+fn takes_of(call: &Call, o: ObjectNo) -> u32
+    ensures { result ≡ takes_of o.0 call.now }
+{
+    match call {
+        Call::CountDown(l, n) => { if l.0 == o.0 { *n } else { 0 } }
+        Call::ArriveAndWaitLatch(l) => { if l.0 == o.0 { 1 } else { 0 } }
+        _ => 0,
+    }
+}
+
+/// How much of the counter of latch `o` these calls take, or the greatest number if that is more.
+fn taken_by(calls: &[Call], o: ObjectNo) -> u32
+    ensures { result ≡ min 4294967295 (takings o.0 calls.now) }
+{
     let mut taken: u32 = 0;
-    for call in plan.body(t) {
-        match call {
-            Call::CountDown(l, n) => {
-                if l.0 == o.0 {
-                    taken = taken.saturating_add(*n);
-                }
-            }
-            Call::ArriveAndWaitLatch(l) => {
-                if l.0 == o.0 {
-                    taken = taken.saturating_add(1);
-                }
-            }
-            _ => {}
-        }
+    for i in 0..calls.len() {
+        taken = taken.saturating_add(takes_of(&calls[i], o));
     }
     taken
 }
@@ -109,6 +111,9 @@ fn split_off(
     requires room { splits + 1 < threads }
     ensures main { IsNewToken object.now threads 0 (131072 * (threads - (splits + 1))) (splits + 1) main.new }
     ensures token { IsNewToken object.now threads (splits + 1) 131072 0 result }
+    ensures small { share_of main.old ≤ 4294967295 }
+    ensures less { share_of main.new ≡ share_of main.old - share }
+    ensures share { share_of result ≡ min share (share_of main.old) }
 {
     match object {
         RunObject::Mutex(mutex) => match main {
@@ -155,11 +160,12 @@ fn row_of(
     requires room { splits + 1 < threads }
     ensures main { OnOk result (AreNew objects.now threads 0 (131072 * (threads - (splits + 1))) (splits + 1) main.new) }
     ensures row { IfOk result (λ r. AreNew objects.now threads (splits + 1) 131072 0 r.items) }
+    ensures shares { IfOk result (λ r. AreGiven (scene_of plan.now) (splits + 1) main.old main.new r.items) }
 {
     let thread = ThreadNo(splits + 1);
     let mut row = Vec::with_capacity(alloc, objects.len())?;
     for o in 0..objects.len() {
-        let share = taken_by(plan, thread, object_at(o)?);
+        let share = taken_by(plan.body(thread), object_at(o)?);
         row.push(split_off(alloc, &objects[o], &mut main[o], threads, splits, share))?;
     }
     Ok(row)
@@ -175,6 +181,7 @@ fn all_of(
     requires threads { (1 ≤ threads) × (threads ≤ 64) }
     ensures objects { IfOk result (λ r. AreMadeAs declared.now r.0.items) }
     ensures tokens { IfOk result (λ r. AreNew r.0.items threads 0 (131072 * threads) 0 r.1.items) }
+    ensures shares { IfOk result (λ r. (o : ℕ) → share_at r.1.items o ≡ count_at declared.now o) }
 {
     let mut all = Vec::with_capacity(alloc, declared.len())?;
     let mut tokens = Vec::with_capacity(alloc, declared.len())?;
@@ -204,6 +211,7 @@ impl Objects {
         ensures scene { IfOk result (λ r. scene_in r.0 ≡ scene_of plan.now) }
         ensures objects { IfOk result (λ r. AreMadeAs (scene_of plan.now).objects (all_in r.0)) }
         ensures passes { IfOk result (λ r. AreAllNew (all_in r.0) (vec_len plan.now.threads) r.1.threads.items) }
+        ensures shares { IfOk result (λ r. AreShared (scene_of plan.now) r.1.threads.items) }
     {
         let threads = plan.threads.len() as u32;
         let (all, mut main) = all_of(alloc, plan.objects.as_slice(), threads)?;

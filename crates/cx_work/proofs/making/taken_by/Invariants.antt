@@ -1,0 +1,6 @@
+use Rattle.std.proofs.Common.{◌≡◌, min, take}
+use Rattle.cx_work.specs.RunNow.{takings}
+use Rattle.cx_work.proofs.making.taken_by.Given as goal
+
+abbrev pub invariant-loop-i : goal.invariant-loop-i
+invariant-loop-i l = l.taken ≡ min 4294967295 (takings l.o.0 (take l.i l.calls))
