@@ -1,0 +1,13 @@
+pub mod Meeting
+pub mod Tokens
+pub mod Keeping
+pub mod Ending
+pub mod Settled
+pub mod Going
+pub mod Tallying
+pub mod Beginning
+pub mod Righting
+pub mod Handed
+pub mod Passed
+pub mod Parts
+pub mod Stepped

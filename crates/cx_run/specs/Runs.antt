@@ -1,0 +1,222 @@
+-- What is so of a run, while main's list grows and at its end.
+use Rattle.std.specs.Prelude.{◌≡◌, ◌⊎◌, ℕ, suc, ◌+◌, ◌-◌, ◌<◌, ◌≤◌, true, false, IsTrue, List, [], ◌∷◌, map, length, slice_get, slice_set, Option, Some, None, IfSome, Bool}
+use Rattle.cx_names.specs.declared.ThreadNo.{ThreadNo}
+use Rattle.cx_machine.specs.Machine.{IsLegal}
+use Rattle.cx_scene.specs.declared.declared.Object.{Object}
+use Rattle.cx_scene.specs.Scene.{Scene, kind_of}
+use Rattle.cx_items.specs.declared.item.Control.TheVariants as controls
+use Rattle.cx_items.specs.declared.item.Item.{Item}
+use Rattle.cx_items.specs.declared.item.Item.TheVariants as items
+use Rattle.cx_items.specs.Next.{local_at_start, is_ended}
+use Rattle.cx_items.specs.Steps.{local_of}
+use Rattle.cx_history.specs.Histories.{Recorded}
+use Rattle.cx_history.specs.Follows.{any_starts, after_items, is_whole}
+use Rattle.cx_fronts.specs.Positions.{positions}
+use Rattle.cx_fronts.specs.Paths.{Fronts, Grows, Path, AreItems}
+use Rattle.cx_fronts.specs.Growing.{any_joins}
+use Rattle.cx_fronts.specs.Mains.{Main}
+use Rattle.cx_fronts.specs.Runs.{OnlyBarriersComplete}
+use Rattle.cx_fronts.specs.Counts.{change_count}
+use Rattle.cx_io.specs.Spawning.{Raised, RaisedAtLeast}
+use Rattle.cx_jthread.specs.declared.thread.Thread.{Thread}
+use Rattle.cx_jthread.specs.Threads.{job_to_join}
+use Rattle.cx_work.specs.declared.objects.RunObject.{RunObject}
+use Rattle.cx_work.specs.declared.token.Token.{Token}
+use Rattle.cx_work.specs.declared.work.Work.{Work}
+use Rattle.cx_work.specs.declared.work.Ended.{Ended}
+use Rattle.cx_work.specs.Tokens.{AreMadeAs, AreTokens, AreShown}
+use Rattle.cx_work.specs.Steps.{IsAt}
+use Rattle.cx_work.specs.Bodies.{IsBody, Needs, scene_in, all_in}
+use Rattle.cx_work.specs.RunNow.{IsRunNow}
+use Rattle.cx_run.specs.declared.place.Place.{Place}
+use Rattle.cx_run.specs.declared.place.Place.TheVariants as places
+use Rattle.cx_run.specs.declared.run.Run.{Run}
+use Rattle.cx_run.specs.Handing.{AllTakeIn, HaveTaken, splits_of}
+
+-- ---- what a list counts
+
+abbrev pub starts_in : List Item → ℕ
+starts_in [] = 0
+starts_in (items.Control (controls.Start u true) ∷ xs) = 1 + starts_in xs
+starts_in (items.Control (controls.Launch u true) ∷ xs) = 1 + starts_in xs
+starts_in (x ∷ xs) = starts_in xs
+
+abbrev pub refusals_in : List Item → ℕ
+refusals_in [] = 0
+refusals_in (items.Control (controls.Start u false) ∷ xs) = 1 + refusals_in xs
+refusals_in (items.Control (controls.Launch u false) ∷ xs) = 1 + refusals_in xs
+refusals_in (x ∷ xs) = refusals_in xs
+
+-- ---- a spawner's counts
+
+pub record Tally : Type 0 where
+  pub faults : ℕ
+  pub started : ℕ
+  pub carried : ℕ
+
+abbrev pub tally : ℕ → ℕ → ℕ → Tally
+tally f s c = record { faults = f; started = s; carried = c }
+
+-- from one tally to the other: a start for each item that says so, so many steps, and at least a fault for each refusal
+pub record IsTallied (before now : Tally) (xs : List Item) (steps : ℕ) : Type 0 where
+  pub faults : RaisedAtLeast before.faults now.faults (refusals_in xs)
+  pub started : Raised before.started now.started (starts_in xs)
+  pub carried : Raised before.carried now.carried steps
+
+-- ---- threads other than main
+
+-- the list of a thread's whole body
+pub record IsWholeList (s : Scene) (u : ℕ) (xs : List Item) : Type 0 where
+  pub whole : (leaves_completing : ℕ → ℕ → Bool) → OnlyBarriersComplete s leaves_completing → IsTrue (is_whole (after_items s leaves_completing u (local_at_start s u) xs))
+  pub formed : AreItems s u xs
+
+module _ {G : Type 0} (s : Scene) (xs : List RunObject) where
+  -- the work of thread u of this scene on these objects, which has done nothing
+  pub record IsReady (u : ℕ) (w : Work G) : Type 0 where
+    pub number : w.standing.thread.0 ≡ u
+    pub scene : scene_in w.objects ≡ s
+    pub objects : all_in w.objects ≡ xs
+    pub needs : Needs w
+    pub h : Fronts
+    pub shown : AreShown xs w.standing.tokens.items h
+    pub fresh : (o : ℕ) → positions u 0 (h o) ≡ []
+
+  -- the thread was started with such work, which showed these fronts
+  pub record IsOff (u : ℕ) (first : Fronts) (thread : Thread (Work G) Ended) : Type 0 where
+    pub number : thread.number.0 ≡ u
+    pub job : Work G
+    pub to_join : job_to_join thread ≡ Some job
+    pub is_of : job.standing.thread.0 ≡ u
+    pub scene : scene_in job.objects ≡ s
+    pub objects : all_in job.objects ≡ xs
+    pub needs : Needs job
+    pub shown : AreShown xs job.standing.tokens.items first
+
+-- the thread was started with this work, or it waits on with it
+abbrev pub IsBegun : {G : Type 0} → ThreadNo → Work G → Bool → Place G → Type 0
+IsBegun u work true (places.Running thread) = (thread.number ≡ u) × (job_to_join thread ≡ Some work)
+IsBegun u work false (places.Waiting kept) = kept ≡ work
+IsBegun u work _ _ = ⊥
+
+-- the job of a thread that was started may be run
+abbrev pub MayRun : {G : Type 0} → Place G → Type 0
+MayRun (places.Running thread) = IfSome (job_to_join thread) Needs
+MayRun _ = Unit {0}
+
+-- ---- a thread that has ended
+
+-- it made its list from `first` to `last`, which these tokens, that show f, have taken in
+pub record HasEnded (s : Scene) (u : ℕ) (first last : Fronts) (ys : List Item) (tokens : List Token) (f : Fronts) : Type 0 where
+  pub made : (firsts lasts : ℕ → Fronts) → Path s firsts lasts u first ys last
+  pub grows : Grows last f
+  pub taken : HaveTaken tokens u last
+
+-- main's list tells of its join, and it ended with `last`; or it was joined after main's end
+abbrev pub HasCome : Scene → ℕ → Bool → Fronts → Fronts → List Item → List Item → List Token → Fronts → Type 0
+HasCome s u true first last list ys tokens f = (list ≡ ys) × HaveTaken tokens u last
+HasCome s u false first last list ys tokens f = (end : Fronts) × HasEnded s u first end ys tokens f
+
+-- it was never started, and its passes, that showed this, were taken in
+pub record WasIdle (u : ℕ) (tokens : List Token) (f : Fronts) : Type 0 where
+  pub h : Fronts
+  pub fresh : (o : ℕ) → positions u 0 (h o) ≡ []
+  pub grows : Grows h f
+  pub taken : HaveTaken tokens u h
+
+module _ {G : Type 0} (s : Scene) (xs : List RunObject) (first last : ℕ → Fronts) (lists : ℕ → List Item) (list : List Item) (tokens : List Token) (f : Fronts) where
+  -- where thread u is, when main has made this list
+  abbrev pub IsPlace : ℕ → Place G → Type 0
+  IsPlace u (places.Waiting work) = (any_starts u list ≡ false) × IsReady s xs u work
+  IsPlace u (places.Running thread) = (any_starts u list ≡ true) × (any_joins u list ≡ false) × IsOff s xs u (first u) thread
+  IsPlace u (places.Ended ys) = (any_starts u list ≡ true) × IsWholeList s u ys.items × HasCome s u (any_joins u list) (first u) (last u) (lists u) ys.items tokens f
+  IsPlace u places.Idle = (any_starts u list ≡ false) × WasIdle u tokens f
+
+-- ---- a run
+
+-- main has made this list and its tokens show f; each other thread, u at u - 1, is where the list says
+pub record RunOf {G : Type 0} (s : Scene) (xs : List RunObject) (list : List Item) (tokens : List Token) (others : List (Place G)) : Type 0 where
+  pub count : suc (length others) ≡ length s.threads
+  pub splits : (o : ℕ) (k : Token) → slice_get tokens o ≡ Some k → splits_of k ≡ length others
+  pub first : ℕ → Fronts
+  pub last : ℕ → Fronts
+  pub lists : ℕ → List Item
+  pub f : Fronts
+  pub shown : AreShown xs tokens f
+  pub main : Main s first last lists list f
+  pub started : (u : ℕ) → any_starts u list ≡ true → (0 < u) × (u ≤ length others)
+  pub places : (i : ℕ) (p : Place G) → slice_get others i ≡ Some p → IsPlace s xs first last lists list tokens f (suc i) p
+
+-- the job of the thread was done from its tokens to these, with this list, and main's tokens have taken them in
+pub record IsAwaited {G : Type 0} (s : Scene) (xs : List RunObject) (thread : Thread (Work G) Ended) (ys : List Item) (tokens tokens' : List Token) : Type 0 where
+  pub job : Work G
+  pub to_join : job_to_join thread ≡ Some job
+  pub ended : List Token
+  pub theirs : AreTokens xs job.standing.thread.0 ended
+  pub body : IsBody s xs job.standing.thread.0 job.standing.tokens.items ys ended
+  pub takes : AllTakeIn xs ended tokens tokens'
+
+-- what main's tokens know of their fronts at the end: each is legal, shows of a thread that they have taken in what that thread
+-- showed, and nothing of numbers above n
+pub record AreSettled (s : Scene) (tokens : List Token) (f : Fronts) (n : ℕ) : Type 0 where
+  pub legal : (o : ℕ) (d : Object) → slice_get s.objects o ≡ Some d → IsLegal (kind_of d) (f o)
+  pub gone : (u : ℕ) (h : Fronts) → Grows h f → HaveTaken tokens u h → (o : ℕ) → positions u 0 (f o) ≡ positions u 0 (h o)
+  pub above : (u : ℕ) → n < u → (o : ℕ) → positions u 0 (f o) ≡ []
+
+module _ {G : Type 0} where
+  -- what is always so of it, also where no more items are made
+  pub record IsKept (run : Run G) : Type 0 where
+    pub made : AreMadeAs (scene_in run.objects).objects (all_in run.objects)
+    pub tokens : AreTokens (all_in run.objects) 0 run.main.tokens.items
+    pub thread : run.main.thread.0 ≡ 0
+    pub may_run : (i : ℕ) (p : Place G) → slice_get run.others.items i ≡ Some p → MayRun p
+
+  pub record IsRun (run : Run G) : Type 0 where
+    pub kept : IsKept run
+    pub runs_now : IsRunNow (scene_in run.objects)
+    pub at_ : IsAt (scene_in run.objects) run.main
+    pub goes : RunOf (scene_in run.objects) (all_in run.objects) run.main.list.items run.main.tokens.items run.others.items
+
+  -- main has made all of its body
+  abbrev pub IsAtEnd : Run G → Type 0
+  IsAtEnd run = IsTrue (is_ended (local_of (scene_in run.objects) 0 run.main.local))
+
+  -- thread u's place was this one, and is idle now
+  pub record IsHere (u : ℕ) (p : Place G) (old new : List (Place G)) : Type 0 where
+    pub above : 0 < u
+    pub was : slice_get old (u - 1) ≡ Some p
+    pub is : new ≡ slice_set old (u - 1) places.Idle
+
+  -- every other thread's passes were taken in
+  abbrev pub has_come : Place G → Bool
+  has_come (places.Ended ys) = true
+  has_come places.Idle = true
+  has_come _ = false
+
+  -- one more has come, and the others are where they were
+  abbrev pub HasComeAt : ℕ → List (Place G) → List (Place G) → Type 0
+  HasComeAt i old new = (p : Place G) × (new ≡ slice_set old i p) × (has_come p ≡ true)
+
+  abbrev pub AllHaveCome : Run G → Type 0
+  AllHaveCome run = (i : ℕ) (p : Place G) → slice_get run.others.items i ≡ Some p → has_come p ≡ true
+
+  -- the list of a thread, in the record
+  abbrev pub list_at : Place G → Option (List Item)
+  list_at (places.Ended ys) = Some ys.items
+  list_at _ = None
+
+  -- the record of main's list and of the others'
+  abbrev pub record_of : Scene → List Item → List (Place G) → Recorded
+  record_of s list others = record { version = s.version; lists = Some list ∷ map list_at others }
+
+  -- how many changes the ended threads made
+  abbrev pub steps_at : Place G → ℕ
+  steps_at (places.Ended ys) = change_count ys.items
+  steps_at _ = 0
+
+  abbrev pub steps_in : List (Place G) → ℕ
+  steps_in [] = 0
+  steps_in (p ∷ ps) = steps_at p + steps_in ps
+
+  -- the spawner's counts went on as far as the run did
+  abbrev pub KeepsTally : Run G → Tally → Run G → Tally → Type 0
+  KeepsTally old before new now = (base : Tally) → IsTallied base before old.main.list.items (steps_in old.others.items) → IsTallied base now new.main.list.items (steps_in new.others.items)

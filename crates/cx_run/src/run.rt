@@ -1,0 +1,404 @@
+//! Main's list, with the threads that it starts and joins.
+ghost use Rattle.std.specs.Prelude.{◌≡◌, ◌-◌, ◌+◌, ◌<◌, ℕ, [], ◌∷◌, ◌++◌, length, slice_get, slice_set, Some, None, IfOk, IfSome, OnOk, MatchOption};
+ghost use Rattle.cx_items.specs.Steps.{local_of};
+ghost use Rattle.cx_items.specs.declared.item.Control.TheVariants as controls;
+ghost use Rattle.cx_items.specs.declared.item.Item.TheVariants as items;
+ghost use Rattle.cx_history.specs.Views.{listed, recorded_of};
+ghost use Rattle.cx_history.specs.Histories.{list_of as list_in};
+ghost use Rattle.cx_work.specs.declared.act.Next.TheVariants as nexts;
+ghost use Rattle.cx_work.specs.Bodies.{Needs, scene_in, all_in};
+ghost use Rattle.cx_fronts.specs.Counts.{change_count};
+ghost use Rattle.cx_io.specs.Spawning.{Raised};
+ghost use Rattle.cx_jthread.specs.Threads.{job_to_join};
+ghost use Rattle.cx_work.specs.RunNow.{IsRunNow, AreAllNew};
+ghost use Rattle.cx_work.specs.Steps.{IsNext};
+ghost use Rattle.cx_work.specs.Tokens.{AreMadeAs};
+ghost use Rattle.cx_run.specs.Runs.{IsBegun, IsTallied, list_at, tally};
+ghost use Rattle.cx_run.specs.Results.{IsRightRun, changes_elsewhere};
+
+use crate::handing::{meet_all, take_all_in};
+use crate::place::Place;
+use cx_history::{Items, List, Record};
+use cx_io::Spawner;
+use cx_items::{Control, Item};
+use cx_jthread::Thread;
+use cx_names::{NoMemory, ThreadNo};
+use cx_work::{Ended, Gate, Next, Objects, Passes, Standing, Token, Work, room_for};
+use std::alloc::Global;
+use std::mem;
+use std::sync::{Arc, Wait};
+use std::thread::Threads;
+
+/// Main's number.
+const MAIN: ThreadNo = ThreadNo(0);
+
+/// Main, which makes its own calls, and the other threads: thread t at t - 1.
+#[derive(Drop)]
+pub(crate) struct Run<G: Gate + Send + Sync> {
+    pub(crate) objects: Objects,
+    pub(crate) main: Standing,
+    pub(crate) others: Vec<Place<G>>,
+}
+
+/// The answer where a text asks for what no scenario asks for.
+fn cannot_be() -> NoMemory {
+    NoMemory
+}
+
+/// The number of the thread at this place.
+fn after(place: usize) -> Result<ThreadNo, NoMemory>
+    ensures { IfOk result (λ t. t.0 ≡ place + 1) }
+{
+    let place = u32::try_from(place).ok().ok_or(NoMemory)?;
+    Ok(ThreadNo(place.checked_add(1).ok_or(NoMemory)?))
+}
+
+/// Starts a thread with this work, or keeps the work where no thread is to be had.
+fn begin<G: Gate + Send + Sync, P: Spawner<Work<G>>, R: Threads + Wait + Copy + Send + 'static>(
+    rt: &R,
+    spawner: &mut P,
+    u: ThreadNo,
+    work: Work<G>,
+) -> (Place<G>, bool)
+    requires needs { Needs work }
+    ensures place { IsBegun u work result.1 result.0 }
+    ensures tally { IsTallied (tally (P.faults spawner.old) (P.started spawner.old) (P.carried spawner.old)) (tally (P.faults spawner.new) (P.started spawner.new) (P.carried spawner.new)) (items.Control (controls.Start u result.1) ∷ []) 0 }
+{
+    match Thread::start(rt, spawner, u, work) {
+        Ok(thread) => (Place::Running(thread), true),
+        Err(work) => (Place::Waiting(work), false),
+    }
+}
+
+impl<G: Gate + Send + Sync> Run<G> {
+    ghost use Rattle.cx_run.specs.Runs.{IsKept, IsRun, IsAtEnd, AllHaveCome, KeepsTally, IsHere, HasComeAt, IsAwaited, steps_in};
+
+    /// Everything that a run needs: main at the start of its body, and the work of each other thread.
+    pub(crate) fn prepare(
+        alloc: Global,
+        objects: &Objects,
+        passes: Passes,
+        gate: &Arc<G, Global>,
+    ) -> Result<Run<G>, NoMemory>
+        requires runs { IsRunNow (scene_in objects.now) }
+        requires made { AreMadeAs (scene_in objects.now).objects (all_in objects.now) }
+        requires passes { AreAllNew (all_in objects.now) (length (scene_in objects.now).threads) passes.threads.items }
+        ensures run { IfOk result (λ r. IsRun r) }
+        ensures objects { IfOk result (λ r. (scene_in r.objects ≡ scene_in objects.now) × (all_in r.objects ≡ all_in objects.now)) }
+        ensures list { IfOk result (λ r. (r.main.list.items ≡ []) × (steps_in r.others.items ≡ 0)) }
+    {
+        let mut threads = passes.threads;
+        if threads.is_empty() {
+            return Err(cannot_be());
+        }
+        let tokens = threads.remove(0);
+        let plan = &objects.plan;
+        let room = room_for(plan, MAIN)?;
+        let main = Standing::start(alloc, plan, MAIN, tokens, room)?;
+        let mut others = Vec::with_capacity(alloc, threads.len())?;
+        for (i, tokens) in threads.into_iter().enumerate() {
+            let work = Work::new(alloc, objects.share()?, after(i)?, tokens, Arc::try_clone(gate)?)?;
+            others.push(Place::Waiting(work))?;
+        }
+        Ok(Run {
+            objects: objects.share()?,
+            main,
+            others,
+        })
+    }
+
+    /// Makes main's list to its end, and waits until every thread that was started has ended.
+    pub(crate) fn complete<P: Spawner<Work<G>>, R: Threads + Wait + Copy + Send + 'static>(
+        &mut self,
+        rt: &R,
+        spawner: &mut P,
+        gate: &G,
+    ) -> Result<(), NoMemory>
+        requires run { IsRun self.old }
+        ensures objects { self.new.objects ≡ self.old.objects }
+        ensures kept { IsKept self.new }
+        ensures run { OnOk result (IsRun self.new) }
+        ensures tally { OnOk result (KeepsTally self.old (tally (P.faults spawner.old) (P.started spawner.old) (P.carried spawner.old)) self.new (tally (P.faults spawner.new) (P.started spawner.new) (P.carried spawner.new))) }
+        ensures ended { OnOk result (IsAtEnd self.new) }
+        ensures come { OnOk result (AllHaveCome self.new) }
+    {
+        self.make_main(rt, spawner, gate)?;
+        self.gather(rt, spawner)
+    }
+
+    /// Makes main's list to its end. Waits.
+    fn make_main<P: Spawner<Work<G>>, R: Threads + Wait + Copy + Send + 'static>(
+        &mut self,
+        rt: &R,
+        spawner: &mut P,
+        gate: &G,
+    ) -> Result<(), NoMemory>
+        requires run { IsRun self.old }
+        ensures objects { self.new.objects ≡ self.old.objects }
+        ensures kept { IsKept self.new }
+        ensures run { OnOk result (IsRun self.new) }
+        ensures tally { OnOk result (KeepsTally self.old (tally (P.faults spawner.old) (P.started spawner.old) (P.carried spawner.old)) self.new (tally (P.faults spawner.new) (P.started spawner.new) (P.carried spawner.new))) }
+        ensures ended { OnOk result (IsAtEnd self.new) }
+    {
+        for _ in rt.forever() {
+            self.main.enter(&self.objects.plan, gate);
+            let Some(next) = self.main.next(&self.objects.plan)? else {
+                return Ok(());
+            };
+            let item = self.step(rt, spawner, next)?;
+            self.main.leave(gate, &item);
+        }
+        unreachable!()
+    }
+
+    /// Makes main's next item, and puts it into its list.
+    fn step<P: Spawner<Work<G>>, R: Threads + Wait + Copy + Send + 'static>(
+        &mut self,
+        rt: &R,
+        spawner: &mut P,
+        next: Next,
+    ) -> Result<Item, NoMemory>
+        requires next { IsNext (scene_in self.old.objects) 0 (local_of (scene_in self.old.objects) 0 self.old.main.local) (Some next) }
+        requires run { IsRun self.old }
+        ensures objects { self.new.objects ≡ self.old.objects }
+        ensures kept { IsKept self.new }
+        ensures run { OnOk result (IsRun self.new) }
+        ensures tally { OnOk result (KeepsTally self.old (tally (P.faults spawner.old) (P.started spawner.old) (P.carried spawner.old)) self.new (tally (P.faults spawner.new) (P.started spawner.new) (P.carried spawner.new))) }
+    {
+        match next {
+            Next::Starts(u) => self.start(rt, spawner, u),
+            Next::Joins(u) => self.join(rt, spawner, u),
+            _ => {
+                let objects = self.objects.all.as_slice();
+                self.main.make(rt, &self.objects.plan, objects, next)
+            }
+        }
+    }
+
+    /// The place of a thread other than main, which is left idle.
+    fn leave(&mut self, u: ThreadNo) -> Option<Place<G>>
+        ensures parts { (self.new.objects ≡ self.old.objects) × (self.new.main ≡ self.old.main) }
+        ensures here { MatchOption result (self.new.others ≡ self.old.others) (λ p. IsHere u.0 p self.old.others.items self.new.others.items) }
+    {
+        if u.0 == 0 || self.others.len() < u.0 as usize {
+            return None;
+        }
+        let place = &mut self.others[u.0 as usize - 1];
+        Some(mem::replace(place, Place::Idle))
+    }
+
+    /// Starts a thread, which begins with what main has seen, and puts the item into main's list.
+    fn start<P: Spawner<Work<G>>, R: Threads + Wait + Copy + Send + 'static>(
+        &mut self,
+        rt: &R,
+        spawner: &mut P,
+        u: ThreadNo,
+    ) -> Result<Item, NoMemory>
+        requires next { IsNext (scene_in self.old.objects) 0 (local_of (scene_in self.old.objects) 0 self.old.main.local) (Some (nexts.Starts u)) }
+        requires run { IsRun self.old }
+        ensures objects { self.new.objects ≡ self.old.objects }
+        ensures kept { IsKept self.new }
+        ensures run { OnOk result (IsRun self.new) }
+        ensures tally { OnOk result (KeepsTally self.old (tally (P.faults spawner.old) (P.started spawner.old) (P.carried spawner.old)) self.new (tally (P.faults spawner.new) (P.started spawner.new) (P.carried spawner.new))) }
+    {
+        let Some(Place::Waiting(mut work)) = self.leave(u) else {
+            return Err(cannot_be());
+        };
+        meet_all(
+            self.objects.all.as_slice(),
+            self.main.tokens.as_mut_slice(),
+            work.standing.tokens.as_mut_slice(),
+        );
+        let (place, started) = begin(rt, spawner, u, work);
+        self.others[u.0 as usize - 1] = place;
+        let item = Item::Control(Control::Start(u, started));
+        self.main.take(&self.objects.plan, item)?;
+        Ok(item)
+    }
+
+    /// Joins a thread and takes its passes in, and puts the item into main's list.
+    fn join<P: Spawner<Work<G>>, R: Threads + Wait + Copy + Send + 'static>(
+        &mut self,
+        rt: &R,
+        spawner: &mut P,
+        u: ThreadNo,
+    ) -> Result<Item, NoMemory>
+        requires next { IsNext (scene_in self.old.objects) 0 (local_of (scene_in self.old.objects) 0 self.old.main.local) (Some (nexts.Joins u)) }
+        requires run { IsRun self.old }
+        ensures objects { self.new.objects ≡ self.old.objects }
+        ensures kept { IsKept self.new }
+        ensures run { OnOk result (IsRun self.new) }
+        ensures tally { OnOk result (KeepsTally self.old (tally (P.faults spawner.old) (P.started spawner.old) (P.carried spawner.old)) self.new (tally (P.faults spawner.new) (P.started spawner.new) (P.carried spawner.new))) }
+    {
+        let Some(Place::Running(thread)) = self.leave(u) else {
+            return Err(cannot_be());
+        };
+        let list = self.await_end(rt, spawner, thread)?;
+        self.others[u.0 as usize - 1] = Place::Ended(list);
+        let item = Item::Control(Control::Join(u));
+        self.main.take(&self.objects.plan, item)?;
+        Ok(item)
+    }
+
+    /// Waits until a thread has ended, takes its passes in, and gives its list.
+    fn await_end<P: Spawner<Work<G>>, R: Threads + Wait>(
+        &mut self,
+        rt: &R,
+        spawner: &mut P,
+        mut thread: Thread<Work<G>>,
+    ) -> Result<Vec<Item>, NoMemory>
+        requires kept { IsKept self.old }
+        requires job { IfSome (job_to_join thread) (λ w. Needs w × (scene_in w.objects ≡ scene_in self.old.objects) × (all_in w.objects ≡ all_in self.old.objects)) }
+        ensures kept { IsKept self.new }
+        ensures parts { (self.new.objects ≡ self.old.objects) × (self.new.others ≡ self.old.others) × (self.new.main.list ≡ self.old.main.list) × (self.new.main.local ≡ self.old.main.local) }
+        ensures ended { IfOk result (λ ys. IsAwaited (scene_in self.old.objects) (all_in self.old.objects) thread ys.items self.old.main.tokens.items self.new.main.tokens.items) }
+        ensures started { P.started spawner.new ≡ P.started spawner.old }
+        ensures faults { P.faults spawner.new ≡ P.faults spawner.old }
+        ensures carried { IfOk result (λ ys. Raised (P.carried spawner.old) (P.carried spawner.new) (change_count ys.items)) }
+    {
+        let Ok(ended) = thread.join(rt, spawner, MAIN) else {
+            return Err(cannot_be());
+        };
+        let Ended {
+            list,
+            tokens,
+            failed,
+            ..
+        } = ended;
+        let objects = self.objects.all.as_slice();
+        take_all_in(objects, self.main.tokens.as_mut_slice(), tokens);
+        if failed { Err(NoMemory) } else { Ok(list) }
+    }
+
+    /// Waits until every thread that was started has ended, and takes the passes in of all that main hasn't joined.
+    fn gather<P: Spawner<Work<G>>, R: Threads + Wait>(
+        &mut self,
+        rt: &R,
+        spawner: &mut P,
+    ) -> Result<(), NoMemory>
+        requires run { IsRun self.old }
+        ensures objects { self.new.objects ≡ self.old.objects }
+        ensures kept { IsKept self.new }
+        ensures run { OnOk result (IsRun self.new) }
+        ensures tally { OnOk result (KeepsTally self.old (tally (P.faults spawner.old) (P.started spawner.old) (P.carried spawner.old)) self.new (tally (P.faults spawner.new) (P.started spawner.new) (P.carried spawner.new))) }
+        ensures come { OnOk result (AllHaveCome self.new) }
+        ensures main { (self.new.main.list ≡ self.old.main.list) × (self.new.main.local ≡ self.old.main.local) }
+    {
+        for i in 0..self.others.len() {
+            self.gather_one(rt, spawner, i)?;
+        }
+        Ok(())
+    }
+
+    /// Takes in the passes of the thread at a place.
+    fn gather_one<P: Spawner<Work<G>>, R: Threads + Wait>(
+        &mut self,
+        rt: &R,
+        spawner: &mut P,
+        i: usize,
+    ) -> Result<(), NoMemory>
+        requires there { i < length self.old.others.items }
+        requires run { IsRun self.old }
+        ensures objects { self.new.objects ≡ self.old.objects }
+        ensures kept { IsKept self.new }
+        ensures run { OnOk result (IsRun self.new) }
+        ensures tally { OnOk result (KeepsTally self.old (tally (P.faults spawner.old) (P.started spawner.old) (P.carried spawner.old)) self.new (tally (P.faults spawner.new) (P.started spawner.new) (P.carried spawner.new))) }
+        ensures come { OnOk result (HasComeAt i self.old.others.items self.new.others.items) }
+        ensures main { (self.new.main.list ≡ self.old.main.list) × (self.new.main.local ≡ self.old.main.local) }
+    {
+        match mem::replace(&mut self.others[i], Place::Idle) {
+            Place::Waiting(work) => {
+                let objects = self.objects.all.as_slice();
+                take_all_in(objects, self.main.tokens.as_mut_slice(), work.standing.tokens);
+                Ok(())
+            }
+            Place::Running(thread) => {
+                let list = self.await_end(rt, spawner, thread)?;
+                self.others[i] = Place::Ended(list);
+                Ok(())
+            }
+            Place::Ended(list) => {
+                self.others[i] = Place::Ended(list);
+                Ok(())
+            }
+            Place::Idle => Ok(()),
+        }
+    }
+
+    /// After want of memory: main gives up what it holds, and waits until every thread has ended.
+    pub(crate) fn give_up<P: Spawner<Work<G>>, R: Threads + Wait>(
+        self,
+        rt: &R,
+        spawner: &mut P,
+    )
+        requires kept { IsKept self }
+    {
+        let Run {
+            objects,
+            mut main,
+            others,
+        } = self;
+        main.give_up(rt, objects.all.as_slice());
+        for place in others {
+            if let Place::Running(mut thread) = place {
+                let _ = thread.join(rt, spawner, MAIN);
+            }
+        }
+    }
+
+    /// The record of what each thread did, and main's tokens.
+    pub(crate) fn into_record(self, alloc: Global) -> Result<(Record, Vec<Token>), NoMemory>
+        requires run { IsRun self }
+        requires ended { IsAtEnd self }
+        requires come { AllHaveCome self }
+        ensures right { IfOk result (λ t. IsRightRun (scene_in self.objects) (all_in self.objects) (recorded_of t.0) t.1.items) }
+        ensures steps { IfOk result (λ t. changes_elsewhere (recorded_of t.0) ≡ steps_in self.others.items) }
+        ensures list { IfOk result (λ t. list_in (recorded_of t.0) 0 ≡ self.main.list.items) }
+    {
+        let Run {
+            objects,
+            main,
+            others,
+        } = self;
+        let Standing { tokens, list, .. } = main;
+        let mut lists = Vec::new(alloc);
+        lists.push(made(list))?;
+        for place in others {
+            lists.push(list_of(alloc, place))?;
+        }
+        let version = objects.plan.version;
+        Ok((Record { version, lists }, tokens))
+    }
+}
+
+/// The list of the thread at a place.
+fn list_of<G: Gate + Send + Sync>(alloc: Global, place: Place<G>) -> List
+    ensures { listed result ≡ list_at place }
+{
+    match place {
+        Place::Ended(list) => made(list),
+        _ => unstarted(alloc),
+    }
+}
+
+/// The list of a thread that was started.
+fn made(items: Vec<Item>) -> List
+    ensures { listed result ≡ Some items.items }
+{
+    List {
+        started: true,
+        items: Items { items },
+    }
+}
+
+/// The list of a thread that was never started.
+fn unstarted(alloc: Global) -> List
+    ensures { listed result ≡ None }
+{
+    List {
+        started: false,
+        items: Items {
+            items: Vec::new(alloc),
+        },
+    }
+}

@@ -1,0 +1,70 @@
+//! A whole run.
+ghost use Rattle.std.specs.Prelude.{◌≡◌, length, IfOk};
+ghost use Rattle.cx_history.specs.Views.{recorded_of};
+ghost use Rattle.cx_history.specs.Legal.{LegalRecord};
+ghost use Rattle.cx_history.specs.Follows.{Follows};
+ghost use Rattle.cx_history.specs.IsRecord.{IsRecord};
+ghost use Rattle.cx_history.specs.Histories.{list_of};
+ghost use Rattle.cx_io.specs.Spawning.{Raised, RaisedAtLeast};
+ghost use Rattle.cx_work.specs.Bodies.{scene_in, all_in};
+ghost use Rattle.cx_work.specs.RunNow.{IsRunNow, AreAllNew};
+ghost use Rattle.cx_work.specs.Tokens.{AreMadeAs};
+ghost use Rattle.cx_run.specs.Runs.{starts_in, refusals_in};
+ghost use Rattle.cx_run.specs.Results.{AreWhole, changes_elsewhere};
+
+use crate::run::Run;
+use cx_history::Record;
+use cx_io::Spawner;
+use cx_names::NoMemory;
+use cx_work::{Gate, Objects, Passes, Token, Work};
+use std::alloc::Global;
+use std::sync::{Arc, Wait};
+use std::thread::Threads;
+
+/// Main's tokens at the end of a run, which have taken in every other thread's.
+#[derive(Drop)]
+pub struct Fronts {
+    /// One for each object, by its number.
+    pub tokens: Vec<Token>,
+}
+
+/// Runs the scenario of `objects` on them: main's calls on the calling thread, the others on threads that `spawner` starts
+/// [thread.thread.constr] and joins [thread.thread.member]. Waits for them.
+///
+/// `passes` are those that `Objects::make` gave with the objects, of 1 to 64 threads, main's first. `gate` is called round each call
+/// of the text; `alloc` is where the lists are. Gives the record of what each thread did, and main's tokens, which have then taken in
+/// every other thread's. A refused start is no error: the record says so, and the thread has no list in it.
+///
+/// `NoMemory` where memory doesn't suffice, which comes once all threads have ended; the passes are gone then. The threads' lists are
+/// reserved before the first start. A start, a level of a recursive mutex and a place in the text take a little more.
+pub fn run_on<
+    G: Gate + Send + Sync,
+    P: Spawner<Work<G>>,
+    R: Threads + Wait + Copy + Send + 'static,
+>(
+    rt: &R,
+    alloc: Global,
+    objects: &Objects,
+    passes: Passes,
+    spawner: &mut P,
+    gate: &Arc<G, Global>,
+) -> Result<(Record, Fronts), NoMemory>
+    requires runs { IsRunNow (scene_in objects.now) }
+    requires made { AreMadeAs (scene_in objects.now).objects (all_in objects.now) }
+    requires passes { AreAllNew (all_in objects.now) (length (scene_in objects.now).threads) passes.threads.items }
+    ensures legal { IfOk result (λ t. LegalRecord (scene_in objects.now) (recorded_of t.0)) }
+    ensures follows { IfOk result (λ t. Follows (scene_in objects.now) (recorded_of t.0)) }
+    ensures formed { IfOk result (λ t. IsRecord (scene_in objects.now) (recorded_of t.0)) }
+    ensures fronts { IfOk result (λ t. AreWhole (scene_in objects.now) (all_in objects.now) t.1.tokens.items (recorded_of t.0)) }
+    ensures started { IfOk result (λ t. Raised (P.started spawner.old) (P.started spawner.new) (starts_in (list_of (recorded_of t.0) 0))) }
+    ensures carried { IfOk result (λ t. Raised (P.carried spawner.old) (P.carried spawner.new) (changes_elsewhere (recorded_of t.0))) }
+    ensures faults { IfOk result (λ t. RaisedAtLeast (P.faults spawner.old) (P.faults spawner.new) (refusals_in (list_of (recorded_of t.0) 0))) }
+{
+    let mut run = Run::prepare(alloc, objects, passes, gate)?;
+    if run.complete(rt, spawner, &**gate).is_err() {
+        run.give_up(rt, spawner);
+        return Err(NoMemory);
+    }
+    let (record, tokens) = run.into_record(alloc)?;
+    Ok((record, Fronts { tokens }))
+}
