@@ -83,8 +83,8 @@ module _ {G : Type 0} (s : Scene) (xs : List RunObject) (list : List Item) (toke
       go None at =
           let far = low others i at in
           subst (λ (ys : List Item). Ending s (suc i) (any_starts (suc i) list) (any_joins (suc i) list) ys (r.first (suc i)) r.f) (sym (empty_in i at))
-            (subst (λ (b : Bool). Ending s (suc i) b (any_joins (suc i) list) [] (r.first (suc i)) r.f) (sym (never i far (any_starts (suc i) list) refl))
-            (record { begun = r.f; ended = r.f; finished = λ ne k. record { unused = settled.above (suc i) (omega (arith, far)); made = λ firsts lasts. stays (suc i) r.f; taken = stays (suc i) r.f } }))
+          (subst (λ (b : Bool). Ending s (suc i) b (any_joins (suc i) list) [] (r.first (suc i)) r.f) (sym (never i far (any_starts (suc i) list) refl))
+          (record { begun = r.f; ended = r.f; finished = λ ne k. record { unused = settled.above (suc i) (omega (arith, far)); made = λ firsts lasts. stays (suc i) r.f; taken = stays (suc i) r.f } }))
       go (Some p) at = subst (λ (ys : List Item). Ending s (suc i) (any_starts (suc i) list) (any_joins (suc i) list) ys (r.first (suc i)) r.f) (sym (list_in i p at)) (place_end i p (come i p at) (r.places i p at))
 
   -- main's list tells of the join of a thread that ended
@@ -150,7 +150,7 @@ module _ {G : Type 0} (s : Scene) (xs : List RunObject) (list : List Item) (toke
       go true q =
           let j = joined_ t q in
           subst (λ (b : Bool). Finished s t (list_of (record_of s list others) t) (if b then r.first t else (ending t).begun) (r.last t) r.f) (sym (r.main.started t q))
-            (record { unused = r.main.clean t (r.main.started t q); made = j.made; taken = record { grows = j.taken; mine = λ o. gone_ t q o ∙ sym (no_more (positions t 0 (r.last t o))) } })
+          (record { unused = r.main.clean t (r.main.started t q); made = j.made; taken = record { grows = j.taken; mine = λ o. gone_ t q o ∙ sym (no_more (positions t 0 (r.last t o))) } })
       go false q = (ending t).finished ne q
 
   pub passes : FromPasses s (record_of s list others)

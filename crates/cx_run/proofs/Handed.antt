@@ -70,38 +70,38 @@ number_on p q t same is = ap (λ (n : ThreadNo). n.0) same ∙ is
 met_mutex_at : (m : CachePadded Mutex) (a b : MutexToken) (q : Pass mutex.Mutex) → IsATokenOf (mades.Mutex m) (tokens.Mutex a) → ((v w : View mutex.Mutex) → IsMutexPassWith (padded_value m) a.pass v → IsMutexPassWith (padded_value m) b.pass w → IsMutexPassWith (padded_value m) q (having_met w v)) → KeepsOwner (padded_value m) b.pass q → HasMet (mades.Mutex m) (tokens.Mutex a) (tokens.Mutex b) (tokens.Mutex (record { pass = q; hold = b.hold }))
 met_mutex_at m a b q is meets owner = record {
   token = λ t k.
-    let p = is.1.0.pass in
-    let mine = k.0.pass in
-    let number = met_number locking _ _ _ a.pass b.pass q meets p mine in
-    (record { pass = (having_met mine.0 p.0, meets p.0 mine.0 p.1 mine.1); hold = held_on (padded_value m) b.pass q b.hold owner number k.0.hold }, number_on b.pass q t number k.1);
+      let p = is.1.0.pass in
+      let mine = k.0.pass in
+      let number = met_number locking _ _ _ a.pass b.pass q meets p mine in
+      (record { pass = (having_met mine.0 p.0, meets p.0 mine.0 p.1 mine.1); hold = held_on (padded_value m) b.pass q b.hold owner number k.0.hold }, number_on b.pass q t number k.1);
   seen = λ t k F H shown_F shown_H. met locking _ _ _ a.pass b.pass q t F H k.1 meets shown_F shown_H;
 }
 
 met_recursive_at : (m : CachePadded RecursiveMutex) (a b : LevelToken) (q : Pass mutex.Mutex) → IsATokenOf (mades.Recursive m) (tokens.Recursive a) → ((v w : View mutex.Mutex) → IsRecursivePassWith (padded_value m) a.pass v → IsRecursivePassWith (padded_value m) b.pass w → IsRecursivePassWith (padded_value m) q (having_met w v)) → HasMet (mades.Recursive m) (tokens.Recursive a) (tokens.Recursive b) (tokens.Recursive (record { pass = q; levels = b.levels }))
 met_recursive_at m a b q is meets = record {
   token = λ t k.
-    let p = is.1.0.pass in
-    let mine = k.0.pass in
-    let number = met_number locking _ _ _ a.pass b.pass q meets p mine in
-    (record { pass = (having_met mine.0 p.0, meets p.0 mine.0 p.1 mine.1); own = own_on b.pass q b.levels.items number k.0.own }, number_on b.pass q t number k.1);
+      let p = is.1.0.pass in
+      let mine = k.0.pass in
+      let number = met_number locking _ _ _ a.pass b.pass q meets p mine in
+      (record { pass = (having_met mine.0 p.0, meets p.0 mine.0 p.1 mine.1); own = own_on b.pass q b.levels.items number k.0.own }, number_on b.pass q t number k.1);
   seen = λ t k F H shown_F shown_H. met locking _ _ _ a.pass b.pass q t F H k.1 meets shown_F shown_H;
 }
 
 met_semaphore_at : (m : CachePadded Semaphore) (a b q : Pass semaphore.Semaphore) → IsATokenOf (mades.Semaphore m) (tokens.Semaphore a) → ((v w : View semaphore.Semaphore) → IsSemaphorePassWith (padded_value m) a v → IsSemaphorePassWith (padded_value m) b w → IsSemaphorePassWith (padded_value m) q (having_met w v)) → HasMet (mades.Semaphore m) (tokens.Semaphore a) (tokens.Semaphore b) (tokens.Semaphore q)
 met_semaphore_at m a b q is meets = record {
   token = λ t k.
-    let p = is.1.0 in
-    let mine = k.0 in
-    ((having_met mine.0 p.0, meets p.0 mine.0 p.1 mine.1), number_on b q t (met_number counting _ _ _ a b q meets p mine) k.1);
+      let p = is.1.0 in
+      let mine = k.0 in
+      ((having_met mine.0 p.0, meets p.0 mine.0 p.1 mine.1), number_on b q t (met_number counting _ _ _ a b q meets p mine) k.1);
   seen = λ t k F H shown_F shown_H. met counting _ _ _ a b q t F H k.1 meets shown_F shown_H;
 }
 
 met_latch_at : (m : CachePadded Latch) (a b q : Pass latch.Latch) → IsATokenOf (mades.Latch m) (tokens.Latch a) → ((v w : View latch.Latch) → IsLatchPassWith (padded_value m) a v → IsLatchPassWith (padded_value m) b w → IsLatchPassWith (padded_value m) q (having_met w v)) → HasMet (mades.Latch m) (tokens.Latch a) (tokens.Latch b) (tokens.Latch q)
 met_latch_at m a b q is meets = record {
   token = λ t k.
-    let p = is.1.0 in
-    let mine = k.0 in
-    ((having_met mine.0 p.0, meets p.0 mine.0 p.1 mine.1), number_on b q t (met_number latching _ _ _ a b q meets p mine) k.1);
+      let p = is.1.0 in
+      let mine = k.0 in
+      ((having_met mine.0 p.0, meets p.0 mine.0 p.1 mine.1), number_on b q t (met_number latching _ _ _ a b q meets p mine) k.1);
   seen = λ t k F H shown_F shown_H. met latching _ _ _ a b q t F H k.1 meets shown_F shown_H;
 }
 
@@ -133,9 +133,9 @@ took_mutex_at m a b q is own joins owner =
     let was = own.1.0.pass in
     record {
       token = λ t k.
-        let mine = k.0.pass in
-        let number = joined_number locking _ _ _ a.pass b.pass q joins p mine in
-        (record { pass = (both_of mine.0 p.0, joins mine.0 p.0 mine.1 p.1); hold = held_on (padded_value m) b.pass q b.hold owner number k.0.hold }, number_on b.pass q t number k.1);
+          let mine = k.0.pass in
+          let number = joined_number locking _ _ _ a.pass b.pass q joins p mine in
+          (record { pass = (both_of mine.0 p.0, joins mine.0 p.0 mine.1 p.1); hold = held_on (padded_value m) b.pass q b.hold owner number k.0.hold }, number_on b.pass q t number k.1);
       seen = λ t u k l F H shown_F shown_H. joined locking _ _ _ a.pass b.pass q t u F H k.1 l.1 joins shown_F shown_H;
       taken = taken_more locking _ _ _ a.pass b.pass q joins p was;
       splits = joined_splits locking _ _ _ a.pass b.pass q joins p was;
@@ -147,9 +147,9 @@ took_recursive_at m a b q is own joins =
     let was = own.1.0.pass in
     record {
       token = λ t k.
-        let mine = k.0.pass in
-        let number = joined_number locking _ _ _ a.pass b.pass q joins p mine in
-        (record { pass = (both_of mine.0 p.0, joins mine.0 p.0 mine.1 p.1); own = own_on b.pass q b.levels.items number k.0.own }, number_on b.pass q t number k.1);
+          let mine = k.0.pass in
+          let number = joined_number locking _ _ _ a.pass b.pass q joins p mine in
+          (record { pass = (both_of mine.0 p.0, joins mine.0 p.0 mine.1 p.1); own = own_on b.pass q b.levels.items number k.0.own }, number_on b.pass q t number k.1);
       seen = λ t u k l F H shown_F shown_H. joined locking _ _ _ a.pass b.pass q t u F H k.1 l.1 joins shown_F shown_H;
       taken = taken_more locking _ _ _ a.pass b.pass q joins p was;
       splits = joined_splits locking _ _ _ a.pass b.pass q joins p was;

@@ -114,10 +114,10 @@ place_goes s xs first last first' last' lists lists' list list' tokens tokens' f
   a ∙ p.0,
   p.1,
   subst (λ (j : Bool). HasCome s u j (first' u) (last' u) (lists' u) ys.items tokens' f') (sym b)
-    (subst (λ (h : Fronts). HasCome s u (any_joins u list) h (last' u) (lists' u) ys.items tokens' f') c
-    (subst (λ (h : Fronts). HasCome s u (any_joins u list) (first u) h (lists' u) ys.items tokens' f') d
-    (subst (λ (l : List Item). HasCome s u (any_joins u list) (first u) (last u) l ys.items tokens' f') e
-    (come_goes s u (any_joins u list) (first u) (last u) (lists u) ys.items tokens tokens' f f' grows more p.2)))),
+      (subst (λ (h : Fronts). HasCome s u (any_joins u list) h (last' u) (lists' u) ys.items tokens' f') c
+      (subst (λ (h : Fronts). HasCome s u (any_joins u list) (first u) h (lists' u) ys.items tokens' f') d
+      (subst (λ (l : List Item). HasCome s u (any_joins u list) (first u) (last u) l ys.items tokens' f') e
+      (come_goes s u (any_joins u list) (first u) (last u) (lists u) ys.items tokens tokens' f f' grows more p.2)))),
 )
 place_goes s xs first last first' last' lists lists' list list' tokens tokens' f f' u places.Idle a b c d e grows more p = (a ∙ p.0, record { h = p.1.h; fresh = p.1.fresh; grows = λ o. prefix_trans (p.1.h o) (p.1.grows o) (grows o); taken = more u p.1.h p.1.taken })
 
@@ -197,15 +197,15 @@ start_goes {G} s xs list tokens tokens' theirs others i u w thread u_is r at min
         let joins_ : any_joins (suc i) (list ++ items.Control (controls.Start u true) ∷ []) ≡ false = same_joins (suc i) list (items.Control (controls.Start u true)) refl ∙ not_joined (any_joins (suc i) list) refl in
         let first_ : met.g ≡ with_thread r.first u.0 met.g (suc i) = subst (λ n. met.g ≡ with_thread r.first u.0 met.g n) u_is (this_first r.first u.0 met.g) in
         subst (λ n. IsPlace s xs (with_thread r.first u.0 met.g) r.last r.lists (list ++ items.Control (controls.Start u true) ∷ []) tokens' r.f (suc n) q) (sym at_i)
-          (subst (λ (z : Place G). IsPlace s xs (with_thread r.first u.0 met.g) r.last r.lists (list ++ items.Control (controls.Start u true) ∷ []) tokens' r.f (suc i) z) is
-          (starts_, joins_, subst (λ (h : Fronts). IsOff s xs (suc i) h thread) first_ (off met.g met.shown)))
+        (subst (λ (z : Place G). IsPlace s xs (with_thread r.first u.0 met.g) r.last r.lists (list ++ items.Control (controls.Start u true) ∷ []) tokens' r.f (suc i) z) is
+        (starts_, joins_, subst (λ (h : Fronts). IsOff s xs (suc i) h thread) first_ (off met.g met.shown)))
     place_ j q (elsewhere apart at_j) =
         let other : (u.0 == suc j) ≡ false = not_equal u.0 (suc j) (λ e. apart (omega (arith, e, u_is))) in
         place_goes s xs r.first r.last (with_thread r.first u.0 met.g) r.last r.lists r.lists list (list ++ items.Control (controls.Start u true) ∷ []) tokens tokens' r.f r.f (suc j) q
-          (same_starts (suc j) list (items.Control (controls.Start u true)) other)
-          (same_joins (suc j) list (items.Control (controls.Start u true)) refl)
-          (other_first r.first u.0 (suc j) met.g (λ e. apart (omega (arith, e, u_is))))
-          refl refl (λ o. prefix_refl (r.f o)) (λ v h. same_taken xs tokens tokens' 0 v h mine same) (r.places j q at_j)
+        (same_starts (suc j) list (items.Control (controls.Start u true)) other)
+        (same_joins (suc j) list (items.Control (controls.Start u true)) refl)
+        (other_first r.first u.0 (suc j) met.g (λ e. apart (omega (arith, e, u_is))))
+        refl refl (λ o. prefix_refl (r.f o)) (λ v h. same_taken xs tokens tokens' 0 v h mine same) (r.places j q at_j)
 
 -- no thread was to be had: the thread waits on, and has seen what main has seen
 pub refusal_goes : {G : Type 0} (s : Scene) (xs : List RunObject) (list : List Item) (tokens tokens' theirs : List Token) (others : List (Place G)) (i : ℕ) (u : ThreadNo) (w w' : Work G) → RunOf s xs list tokens others → slice_get others i ≡ Some (places.Waiting w) → AreTokens xs 0 tokens → AreTokens xs (suc i) w.standing.tokens.items → AllAsBefore xs tokens tokens' → AllMet xs tokens w.standing.tokens.items theirs → ((h : Fronts) → AreShown xs theirs h → ((o : ℕ) → positions (suc i) 0 (h o) ≡ []) → IsReady s xs (suc i) w') → RunOf s xs (list ++ items.Control (controls.Start u false) ∷ []) tokens' (slice_set others i (places.Waiting w'))
@@ -231,13 +231,13 @@ refusal_goes {G} s xs list tokens tokens' theirs others i u w w' r at mine yours
     place_ : (j : ℕ) (q : Place G) → Stands others i (places.Waiting w') j q → IsPlace s xs r.first r.last r.lists (list ++ items.Control (controls.Start u false) ∷ []) tokens' r.f (suc j) q
     place_ j q (here at_i is) =
         subst (λ n. IsPlace s xs r.first r.last r.lists (list ++ items.Control (controls.Start u false) ∷ []) tokens' r.f (suc n) q) (sym at_i)
-          (subst (λ (z : Place G). IsPlace s xs r.first r.last r.lists (list ++ items.Control (controls.Start u false) ∷ []) tokens' r.f (suc i) z) is
-          (same_starts (suc i) list (items.Control (controls.Start u false)) refl ∙ waits.0, ready' met.g met.shown (λ o. (met.both o).own ∙ waits.1.fresh o)))
+        (subst (λ (z : Place G). IsPlace s xs r.first r.last r.lists (list ++ items.Control (controls.Start u false) ∷ []) tokens' r.f (suc i) z) is
+        (same_starts (suc i) list (items.Control (controls.Start u false)) refl ∙ waits.0, ready' met.g met.shown (λ o. (met.both o).own ∙ waits.1.fresh o)))
     place_ j q (elsewhere apart at_j) =
         place_goes s xs r.first r.last r.first r.last r.lists r.lists list (list ++ items.Control (controls.Start u false) ∷ []) tokens tokens' r.f r.f (suc j) q
-          (same_starts (suc j) list (items.Control (controls.Start u false)) refl)
-          (same_joins (suc j) list (items.Control (controls.Start u false)) refl)
-          refl refl refl (λ o. prefix_refl (r.f o)) (λ v h. same_taken xs tokens tokens' 0 v h mine same) (r.places j q at_j)
+        (same_starts (suc j) list (items.Control (controls.Start u false)) refl)
+        (same_joins (suc j) list (items.Control (controls.Start u false)) refl)
+        refl refl refl (λ o. prefix_refl (r.f o)) (λ v h. same_taken xs tokens tokens' 0 v h mine same) (r.places j q at_j)
 
 -- ---- joins
 
@@ -258,11 +258,11 @@ join_goes {G} s xs list tokens tokens' others i u thread ys ended u_is r at mine
   f = met.g;
   shown = met.shown;
   main = main_joins s r.first r.last r.lists list ys.items r.f met.g came.0 u r.main
-    (subst (λ n. any_starts n list ≡ true) (sym u_is) runs.0)
-    (subst (λ n. any_joins n list ≡ false) (sym u_is) runs.1)
-    (record { grows = λ o. (met.both o).two; mine = λ o. (met.both o).own ∙ sym (nothing_more (positions 0 0 (r.f o))) })
-    (λ first' last'. subst (λ n. Path s first' last' n (r.first n) ys.items came.0) (sym u_is) (came.2 first' last'))
-    (λ o. (met.both o).one);
+      (subst (λ n. any_starts n list ≡ true) (sym u_is) runs.0)
+      (subst (λ n. any_joins n list ≡ false) (sym u_is) runs.1)
+      (record { grows = λ o. (met.both o).two; mine = λ o. (met.both o).own ∙ sym (nothing_more (positions 0 0 (r.f o))) })
+      (λ first' last'. subst (λ n. Path s first' last' n (r.first n) ys.items came.0) (sym u_is) (came.2 first' last'))
+      (λ o. (met.both o).one);
   started = λ v h. let was = r.started v (sym (same_starts v list (items.Control (controls.Join u)) refl) ∙ h) in (was.0, omega (arith, was.1, length_set others i (places.Ended ys)));
   places = λ j q h. place_ j q (get_set others i (places.Ended ys) j q h);
 }
@@ -286,19 +286,19 @@ join_goes {G} s xs list tokens tokens' others i u thread ys ended u_is r at mine
         let taken_ : HaveTaken tokens' (suc i) came.0 = took_them xs ended tokens tokens' 0 (suc i) came.0 r.f theirs mine takes came.1 r.shown in
         let come : HasCome s (suc i) true (r.first (suc i)) (with_thread r.last u.0 came.0 (suc i)) (with_list r.lists u.0 ys.items (suc i)) ys.items tokens' met.g = (this_last r.lists u.0 (suc i) ys.items (sym u_is), subst (λ (h : Fronts). HaveTaken tokens' (suc i) h) (sym (this_last r.last u.0 (suc i) came.0 (sym u_is))) taken_) in
         subst (λ n. IsPlace s xs r.first (with_thread r.last u.0 came.0) (with_list r.lists u.0 ys.items) (list ++ items.Control (controls.Join u) ∷ []) tokens' met.g (suc n) q) (sym at_i)
-          (subst (λ (z : Place G). IsPlace s xs r.first (with_thread r.last u.0 came.0) (with_list r.lists u.0 ys.items) (list ++ items.Control (controls.Join u) ∷ []) tokens' met.g (suc i) z) is
-          (starts_, record { whole = done.whole; formed = done.formed }, subst (λ (b : Bool). HasCome s (suc i) b (r.first (suc i)) (with_thread r.last u.0 came.0 (suc i)) (with_list r.lists u.0 ys.items (suc i)) ys.items tokens' met.g) (sym joins_) come))
+        (subst (λ (z : Place G). IsPlace s xs r.first (with_thread r.last u.0 came.0) (with_list r.lists u.0 ys.items) (list ++ items.Control (controls.Join u) ∷ []) tokens' met.g (suc i) z) is
+        (starts_, record { whole = done.whole; formed = done.formed }, subst (λ (b : Bool). HasCome s (suc i) b (r.first (suc i)) (with_thread r.last u.0 came.0 (suc i)) (with_list r.lists u.0 ys.items (suc i)) ys.items tokens' met.g) (sym joins_) come))
     place_ j q (elsewhere apart at_j) =
         let other : (u.0 == suc j) ≡ false = not_equal u.0 (suc j) (λ e. apart (omega (arith, e, u_is))) in
         place_goes s xs r.first r.last r.first (with_thread r.last u.0 came.0) r.lists (with_list r.lists u.0 ys.items) list (list ++ items.Control (controls.Join u) ∷ []) tokens tokens' r.f met.g (suc j) q
-          (same_starts (suc j) list (items.Control (controls.Join u)) refl)
-          (same_joins (suc j) list (items.Control (controls.Join u)) other)
-          refl
-          (other_last r.last u.0 (suc j) came.0 (λ e. apart (omega (arith, e, u_is))))
-          (other_last r.lists u.0 (suc j) ys.items (λ e. apart (omega (arith, e, u_is))))
-          (λ o. (met.both o).two)
-          (λ v h. took_more xs ended tokens tokens' 0 (suc i) v h theirs mine takes)
-          (r.places j q at_j)
+        (same_starts (suc j) list (items.Control (controls.Join u)) refl)
+        (same_joins (suc j) list (items.Control (controls.Join u)) other)
+        refl
+        (other_last r.last u.0 (suc j) came.0 (λ e. apart (omega (arith, e, u_is))))
+        (other_last r.lists u.0 (suc j) ys.items (λ e. apart (omega (arith, e, u_is))))
+        (λ o. (met.both o).two)
+        (λ v h. took_more xs ended tokens tokens' 0 (suc i) v h theirs mine takes)
+        (r.places j q at_j)
 
 -- ---- after main's end
 
@@ -331,7 +331,7 @@ idle_goes {G} s xs list tokens tokens' others i w r at mine theirs takes = recor
     place_ j q (here at_i is) =
         let idle : WasIdle (suc i) tokens' met.g = record { h = waits.1.h; fresh = waits.1.fresh; grows = λ o. (met.both o).one; taken = took_them xs w.standing.tokens.items tokens tokens' 0 (suc i) waits.1.h r.f theirs mine takes waits.1.shown r.shown } in
         subst (λ n. IsPlace s xs r.first r.last r.lists list tokens' met.g (suc n) q) (sym at_i)
-          (subst (λ (z : Place G). IsPlace s xs r.first r.last r.lists list tokens' met.g (suc i) z) is (waits.0, idle))
+        (subst (λ (z : Place G). IsPlace s xs r.first r.last r.lists list tokens' met.g (suc i) z) is (waits.0, idle))
     place_ j q (elsewhere apart at_j) =
         place_goes s xs r.first r.last r.first r.last r.lists r.lists list list tokens tokens' r.f met.g (suc j) q refl refl refl refl refl (λ o. (met.both o).two) (λ v h. took_more xs w.standing.tokens.items tokens tokens' 0 (suc i) v h theirs mine takes) (r.places j q at_j)
 
@@ -366,7 +366,7 @@ late_goes {G} s xs list tokens tokens' others i thread ys ended r at mine theirs
     place_ j q (here at_i is) =
         let come : HasCome s (suc i) false (r.first (suc i)) (r.last (suc i)) (r.lists (suc i)) ys.items tokens' met.g = (came.0, record { made = came.2; grows = λ o. (met.both o).one; taken = took_them xs ended tokens tokens' 0 (suc i) came.0 r.f theirs mine takes came.1 r.shown }) in
         subst (λ n. IsPlace s xs r.first r.last r.lists list tokens' met.g (suc n) q) (sym at_i)
-          (subst (λ (z : Place G). IsPlace s xs r.first r.last r.lists list tokens' met.g (suc i) z) is
-          (runs.0, record { whole = done.whole; formed = done.formed }, subst (λ (b : Bool). HasCome s (suc i) b (r.first (suc i)) (r.last (suc i)) (r.lists (suc i)) ys.items tokens' met.g) (sym runs.1) come))
+        (subst (λ (z : Place G). IsPlace s xs r.first r.last r.lists list tokens' met.g (suc i) z) is
+        (runs.0, record { whole = done.whole; formed = done.formed }, subst (λ (b : Bool). HasCome s (suc i) b (r.first (suc i)) (r.last (suc i)) (r.lists (suc i)) ys.items tokens' met.g) (sym runs.1) come))
     place_ j q (elsewhere apart at_j) =
         place_goes s xs r.first r.last r.first r.last r.lists r.lists list list tokens tokens' r.f met.g (suc j) q refl refl refl refl refl (λ o. (met.both o).two) (λ v h. took_more xs ended tokens tokens' 0 (suc i) v h theirs mine takes) (r.places j q at_j)

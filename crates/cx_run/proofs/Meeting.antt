@@ -36,8 +36,7 @@ module _ {M : Type 0} (K : Ghosts M) (z : TableId) (start : M) (seats : ℕ) whe
       let k' = meet a.0 b.0 a.1 b.1 in
       let u = having_met b.0 a.0 in
       let mine : positions t 0 u.front ≡ b.0.mine = subst (λ n. positions n 0 u.front ≡ b.0.mine) (b.1.numbered ∙ is_t) (sym (same_positions b.0.number 0 u.front) ∙ k'.known.own k'.counts) in
-      let old : positions t 0 b.0.front ≡ b.0.mine = subst (λ n. positions n 0 b.0.front ≡ b.0.mine) is_t (own_shown q b.0 b.1) in
-      (
+      let old : positions t 0 b.0.front ≡ b.0.mine = subst (λ n. positions n 0 b.0.front ≡ b.0.mine) is_t (own_shown q b.0 b.1) in (
         u.front,
         (u, k', refl),
         record {
@@ -55,8 +54,7 @@ module _ {M : Type 0} (K : Ghosts M) (z : TableId) (start : M) (seats : ℕ) whe
       let old : positions t 0 b.0.front ≡ b.0.mine = subst (λ n. positions n 0 b.0.front ≡ b.0.mine) is_t (own_shown q b.0 b.1) in
       let others : positions n 0 F ≡ a.0.mine = subst (λ es. positions n 0 es ≡ a.0.mine) a.2 (subst (λ m. positions m 0 a.0.front ≡ a.0.mine) is_n (own_shown p a.0 a.1)) in
       let gone : gone_of a.0.number a.0.mine ≡ gone_of n (positions n 0 F) = ap (λ m. gone_of m a.0.mine) (a.1.numbered ∙ is_n) ∙ ap (gone_of n) (sym others) in
-      let told : first_taken q'.badge.views ≡ b.0.taken ++ (a.0.taken ++ gone_of a.0.number a.0.mine ∷ []) = ap first_taken k'.views ∙ taken_is b.0 a.0 a.1.counts in
-      (
+      let told : first_taken q'.badge.views ≡ b.0.taken ++ (a.0.taken ++ gone_of a.0.number a.0.mine ∷ []) = ap first_taken k'.views ∙ taken_is b.0 a.0 a.1.counts in (
         u.front,
         (u, k', refl),
         record {

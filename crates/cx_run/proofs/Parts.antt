@@ -125,9 +125,9 @@ module _ {G : Type 0} where
       let zero_ : r'.main.thread.0 ≡ 0 = ap (λ (t : ThreadNo). t.0) b ∙ run.kept.thread in
       let are' : AreTokens (all_in r.objects) 0 r'.main.tokens.items = subst (λ n. AreTokens (all_in r.objects) n r'.main.tokens.items) zero_ are in
       run_of r r' (r.main.list.items ++ x ∷ []) r'.main.tokens.items r.others.items run a
-        (kept_of r r' a b are' (λ i p at_p. run.kept.may_run i p (ap (λ (v : Vec (Place G)). slice_get v.items i) (sym c) ∙ at_p)) run.kept)
-        at_ grown refl (ap (λ (v : Vec (Place G)). v.items) c)
-        (made_alone (scene_in r.objects) (all_in r.objects) r.main.list.items r.main.tokens.items r'.main.tokens.items r.others.items x run.kept.made run.kept.tokens steps alone run.goes)
+      (kept_of r r' a b are' (λ i p at_p. run.kept.may_run i p (ap (λ (v : Vec (Place G)). slice_get v.items i) (sym c) ∙ at_p)) run.kept)
+      at_ grown refl (ap (λ (v : Vec (Place G)). v.items) c)
+      (made_alone (scene_in r.objects) (all_in r.objects) r.main.list.items r.main.tokens.items r'.main.tokens.items r.others.items x run.kept.made run.kept.tokens steps alone run.goes)
 
   pub made_tally : (now : Tally) (list list' : List Item) (ps ps' : List (Place G)) (x : Item) → ps' ≡ ps → list' ≡ list ++ x ∷ [] → is_made_alone x ≡ true → (base : Tally) → IsTallied base now list (steps_in ps) → IsTallied base now list' (steps_in ps')
   made_tally now list list' ps ps' x c grown alone base h =
@@ -186,27 +186,27 @@ module _ {G : Type 0} where
   begun_goes : (s : Scene) (xs : List RunObject) (list : List Item) (ks ks' theirs : List Token) (others : List (Place G)) (i : ℕ) (u : ThreadNo) (w w' : Work G) (ok : Bool) (p : Place G) → u.0 ≡ suc i → RunOf s xs list ks others → slice_get others i ≡ Some (places.Waiting w) → AreTokens xs 0 ks → IsReady s xs (suc i) w → AllAsBefore xs ks ks' → AllMet xs ks w.standing.tokens.items theirs → IsRenewed w w' theirs → Needs w' → IsBegun u w' ok p → RunOf s xs (list ++ items.Control (controls.Start u ok) ∷ []) ks' (slice_set others i p)
   begun_goes s xs list ks ks' theirs others i u w w' true (places.Running thread) u_is r at_p mine ready same meets n needs begun =
       start_goes s xs list ks ks' theirs others i u w thread u_is r at_p mine (ready_tokens s xs (suc i) w ready) same meets
-        (λ h shown. record {
-          number = ap (λ (t : ThreadNo). t.0) begun.0 ∙ u_is;
-          job = w';
-          to_join = begun.1;
-          is_of = ap (λ (t : ThreadNo). t.0) n.thread ∙ ready.number;
-          scene = ap scene_in n.objects ∙ ready.scene;
-          objects = ap all_in n.objects ∙ ready.objects;
-          needs = needs;
-          shown = subst (λ (l : List Token). AreShown xs l h) (sym n.tokens) shown;
-        })
+      (λ h shown. record {
+        number = ap (λ (t : ThreadNo). t.0) begun.0 ∙ u_is;
+        job = w';
+        to_join = begun.1;
+        is_of = ap (λ (t : ThreadNo). t.0) n.thread ∙ ready.number;
+        scene = ap scene_in n.objects ∙ ready.scene;
+        objects = ap all_in n.objects ∙ ready.objects;
+        needs = needs;
+        shown = subst (λ (l : List Token). AreShown xs l h) (sym n.tokens) shown;
+      })
   begun_goes s xs list ks ks' theirs others i u w w' false (places.Waiting kept) u_is r at_p mine ready same meets n needs begun =
       refusal_goes s xs list ks ks' theirs others i u w kept r at_p mine (ready_tokens s xs (suc i) w ready) same meets
-        (λ h shown fresh. subst (λ (v : Work G). IsReady s xs (suc i) v) (sym begun) (record {
-          number = ap (λ (t : ThreadNo). t.0) n.thread ∙ ready.number;
-          scene = ap scene_in n.objects ∙ ready.scene;
-          objects = ap all_in n.objects ∙ ready.objects;
-          needs = needs;
-          h = h;
-          shown = subst (λ (l : List Token). AreShown xs l h) (sym n.tokens) shown;
-          fresh = fresh;
-        }))
+      (λ h shown fresh. subst (λ (v : Work G). IsReady s xs (suc i) v) (sym begun) (record {
+        number = ap (λ (t : ThreadNo). t.0) n.thread ∙ ready.number;
+        scene = ap scene_in n.objects ∙ ready.scene;
+        objects = ap all_in n.objects ∙ ready.objects;
+        needs = needs;
+        h = h;
+        shown = subst (λ (l : List Token). AreShown xs l h) (sym n.tokens) shown;
+        fresh = fresh;
+      }))
   begun_goes s xs list ks ks' theirs others i u w w' ok p u_is r at_p mine ready same meets n needs begun = absurd begun
 
   begun_may : (u : ThreadNo) (w : Work G) (ok : Bool) (p : Place G) → Needs w → IsBegun u w ok p → MayRun p
@@ -225,8 +225,8 @@ module _ {G : Type 0} where
       let needs = met_needs (scene_in r.objects) (all_in r.objects) (suc (u.0 - 1)) r.main.tokens.items theirs w w' ready run.kept.tokens meets n in
       let set_ : r'.others.items ≡ slice_set r.others.items (u.0 - 1) p = others ∙ (ap (λ (l : List (Place G)). slice_set l (u.0 - 1) p) h.is ∙ set_twice r.others.items (u.0 - 1) places.Idle p) in
       kept_of r r' a b (same_tokens (all_in r.objects) r.main.tokens.items r'.main.tokens.items 0 same run.kept.tokens)
-        (λ i q at_q. may_set r.others.items (u.0 - 1) p (begun_may u w' ok p needs begun) run.kept.may_run i q (ap (λ (l : List (Place G)). slice_get l i) (sym set_) ∙ at_q))
-        run.kept
+      (λ i q at_q. may_set r.others.items (u.0 - 1) p (begun_may u w' ok p needs begun) run.kept.may_run i q (ap (λ (l : List (Place G)). slice_get l i) (sym set_) ∙ at_q))
+      run.kept
 
   pub begun_run : (r r' : Run G) (u : ThreadNo) (w w' : Work G) (theirs : List Token) (mid : List (Place G)) (ok : Bool) (p : Place G) → IsRun r → IsHere u.0 (places.Waiting w) r.others.items mid → AllAsBefore (all_in r.objects) r.main.tokens.items r'.main.tokens.items → AllMet (all_in r.objects) r.main.tokens.items w.standing.tokens.items theirs → IsRenewed w w' theirs → IsBegun u w' ok p → r'.objects ≡ r.objects → r'.main.thread ≡ r.main.thread → r'.others.items ≡ slice_set mid (u.0 - 1) p → r'.main.list.items ≡ r.main.list.items ++ items.Control (controls.Start u ok) ∷ [] → IsAt (scene_in r.objects) r'.main → IsRun r'
   begun_run r r' u w w' theirs mid ok p run h same meets n begun a b others grown at_ =
@@ -234,9 +234,9 @@ module _ {G : Type 0} where
       let needs = met_needs (scene_in r.objects) (all_in r.objects) (suc (u.0 - 1)) r.main.tokens.items theirs w w' ready run.kept.tokens meets n in
       let set_ : r'.others.items ≡ slice_set r.others.items (u.0 - 1) p = others ∙ (ap (λ (l : List (Place G)). slice_set l (u.0 - 1) p) h.is ∙ set_twice r.others.items (u.0 - 1) places.Idle p) in
       run_of r r' (r.main.list.items ++ items.Control (controls.Start u ok) ∷ []) r'.main.tokens.items (slice_set r.others.items (u.0 - 1) p) run a
-        (begun_kept r r' u w w' theirs mid ok p run h same meets n begun a b others)
-        at_ grown refl set_
-        (begun_goes (scene_in r.objects) (all_in r.objects) r.main.list.items r.main.tokens.items r'.main.tokens.items theirs r.others.items (u.0 - 1) u w w' ok p (before_one u h.above) run.goes h.was run.kept.tokens ready same meets n needs begun)
+      (begun_kept r r' u w w' theirs mid ok p run h same meets n begun a b others)
+      at_ grown refl set_
+      (begun_goes (scene_in r.objects) (all_in r.objects) r.main.list.items r.main.tokens.items r'.main.tokens.items theirs r.others.items (u.0 - 1) u w w' ok p (before_one u h.above) run.goes h.was run.kept.tokens ready same meets n needs begun)
 
   -- one place goes on, by the steps that it adds
   set_tally : (before now : Tally) (list list' : List Item) (ps ps' : List (Place G)) (i n : ℕ) (p q : Place G) (xs : List Item) → slice_get ps i ≡ Some p → ps' ≡ slice_set ps i q → list' ≡ list ++ xs → steps_at p ≡ 0 → steps_at q ≡ n → IsTallied before now xs n → (base : Tally) → IsTallied base before list (steps_in ps) → IsTallied base now list' (steps_in ps')
@@ -282,7 +282,7 @@ module _ {G : Type 0} where
       let set_ : r'.others.items ≡ slice_set r.others.items (u.0 - 1) (places.Ended ys) = others ∙ (ap (λ (l : List (Place G)). slice_set l (u.0 - 1) (places.Ended ys)) h.is ∙ set_twice r.others.items (u.0 - 1) places.Idle (places.Ended ys)) in
       let d = done_of (scene_in r.objects) (all_in r.objects) (suc (u.0 - 1)) (run.goes.first (suc (u.0 - 1))) thread ys.items r.main.tokens.items r'.main.tokens.items (runs_here r (u.0 - 1) thread run h.was) awaited in
       run_of r r' (r.main.list.items ++ items.Control (controls.Join u) ∷ []) r'.main.tokens.items (slice_set r.others.items (u.0 - 1) (places.Ended ys)) run a kept at_ grown refl set_
-        (join_goes (scene_in r.objects) (all_in r.objects) r.main.list.items r.main.tokens.items r'.main.tokens.items r.others.items (u.0 - 1) u thread ys d.ended (before_one u h.above) run.goes h.was run.kept.tokens d.theirs d.body d.takes)
+      (join_goes (scene_in r.objects) (all_in r.objects) r.main.list.items r.main.tokens.items r'.main.tokens.items r.others.items (u.0 - 1) u thread ys d.ended (before_one u h.above) run.goes h.was run.kept.tokens d.theirs d.body d.takes)
 
   pub joined_tally : (before now : Tally) (list list' : List Item) (ps mid ps' : List (Place G)) (u : ThreadNo) (thread : Thread (Work G) Ended) (ys : Vec Item) → IsHere u.0 (places.Running thread) ps mid → ps' ≡ slice_set mid (u.0 - 1) (places.Ended ys) → list' ≡ list ++ items.Control (controls.Join u) ∷ [] → now.faults ≡ before.faults → now.started ≡ before.started → Raised before.carried now.carried (change_count ys.items) → (base : Tally) → IsTallied base before list (steps_in ps) → IsTallied base now list' (steps_in ps')
   joined_tally before now list list' ps mid ps' u thread ys h others grown a b c =
@@ -297,10 +297,10 @@ module _ {G : Type 0} where
       let theirs = ready_tokens (scene_in r.objects) (all_in r.objects) (suc i) w ready in
       let mine = took_tokens (all_in r.objects) w.standing.tokens.items r.main.tokens.items ws 0 (suc i) theirs takes run.kept.tokens in
       let kept : IsKept r' = kept_of r r' a b (subst (λ (l : List Token). AreTokens (all_in r.objects) 0 l) (sym is) mine)
-        (λ j q at_q. may_set r.others.items i places.Idle tt run.kept.may_run j q (ap (λ (l : List (Place G)). slice_get l j) (sym others) ∙ at_q)) run.kept in
+      (λ j q at_q. may_set r.others.items i places.Idle tt run.kept.may_run j q (ap (λ (l : List (Place G)). slice_get l j) (sym others) ∙ at_q)) run.kept in
       let at_ : IsAt (scene_in r.objects) r'.main = rw (b, c, d) run.at_ in
       run_of r r' r.main.list.items ws (slice_set r.others.items i places.Idle) run a kept at_ (ap (λ (v : Vec Item). v.items) c) is others
-        (idle_goes (scene_in r.objects) (all_in r.objects) r.main.list.items r.main.tokens.items ws r.others.items i w run.goes at_p run.kept.tokens theirs takes)
+      (idle_goes (scene_in r.objects) (all_in r.objects) r.main.list.items r.main.tokens.items ws r.others.items i w run.goes at_p run.kept.tokens theirs takes)
 
   pub late_run : (r r' : Run G) (i : ℕ) (thread : Thread (Work G) Ended) (ys : Vec Item) → IsRun r → slice_get r.others.items i ≡ Some (places.Running thread) → IsAwaited (scene_in r.objects) (all_in r.objects) thread ys.items r.main.tokens.items r'.main.tokens.items → r'.objects ≡ r.objects → IsKept r' → r'.main.list ≡ r.main.list → r'.main.local ≡ r.main.local → r'.others.items ≡ slice_set r.others.items i (places.Ended ys) → IsRun r'
   late_run r r' i thread ys run at_p awaited a kept c d others =
@@ -308,7 +308,7 @@ module _ {G : Type 0} where
       let e = done_of (scene_in r.objects) (all_in r.objects) (suc i) (run.goes.first (suc i)) thread ys.items r.main.tokens.items r'.main.tokens.items (runs_here r i thread run at_p) awaited in
       let at_ : IsAt (scene_in r.objects) r'.main = rw (b, c, d) run.at_ in
       run_of r r' r.main.list.items r'.main.tokens.items (slice_set r.others.items i (places.Ended ys)) run a kept at_ (ap (λ (v : Vec Item). v.items) c) refl others
-        (late_goes (scene_in r.objects) (all_in r.objects) r.main.list.items r.main.tokens.items r'.main.tokens.items r.others.items i thread ys e.ended run.goes at_p run.kept.tokens e.theirs e.body e.takes)
+      (late_goes (scene_in r.objects) (all_in r.objects) r.main.list.items r.main.tokens.items r'.main.tokens.items r.others.items i thread ys e.ended run.goes at_p run.kept.tokens e.theirs e.body e.takes)
 
   -- a place that had no steps has so many now, and main's list is as it was
   pub later_tally : (before now : Tally) (list list' : List Item) (ps ps' : List (Place G)) (i n : ℕ) (p q : Place G) → slice_get ps i ≡ Some p → ps' ≡ slice_set ps i q → list' ≡ list → steps_at p ≡ 0 → steps_at q ≡ n → now.faults ≡ before.faults → now.started ≡ before.started → Raised before.carried now.carried n → (base : Tally) → IsTallied base before list (steps_in ps) → IsTallied base now list' (steps_in ps')
@@ -345,7 +345,7 @@ module _ {G : Type 0} where
   pub given_kept : (r r' : Run G) (thread : Thread (Work G) Ended) (e : Ended) (ws : List Token) → IsKept r → HasGiven (scene_in r.objects) (all_in r.objects) thread e → AllTakeIn (all_in r.objects) e.tokens.items r.main.tokens.items ws → r'.main.tokens.items ≡ ws → r'.objects ≡ r.objects → r'.main.thread ≡ r.main.thread → r'.others.items ≡ r.others.items → IsKept r'
   given_kept r r' thread e ws kept g takes is a b d =
       kept_of r r' a b (subst (λ (l : List Token). AreTokens (all_in r.objects) 0 l) (sym is) (took_tokens (all_in r.objects) e.tokens.items r.main.tokens.items ws 0 g.job.standing.thread.0 g.theirs takes kept.tokens))
-        (λ i p at_p. kept.may_run i p (ap (λ (l : List (Place G)). slice_get l i) (sym d) ∙ at_p)) kept
+      (λ i p at_p. kept.may_run i p (ap (λ (l : List (Place G)). slice_get l i) (sym d) ∙ at_p)) kept
 
   pub given_awaited : (s : Scene) (xs : List RunObject) (thread : Thread (Work G) Ended) (e : Ended) (ks ks' ws : List Token) → HasGiven s xs thread e → e.failed ≡ false → AllTakeIn xs e.tokens.items ks ws → ks' ≡ ws → IsAwaited s xs thread e.list.items ks ks'
   given_awaited s xs thread e ks ks' ws g whole takes is = record { job = g.job; to_join = g.to_join; ended = e.tokens.items; theirs = g.theirs; body = g.body whole; takes = subst (λ (l : List Token). AllTakeIn xs e.tokens.items ks l) (sym is) takes }
@@ -359,7 +359,7 @@ module _ {G : Type 0} where
   pub set_kept : (r r' : Run G) (i : ℕ) (q : Place G) → IsKept r → MayRun q → r'.objects ≡ r.objects → r'.main.thread ≡ r.main.thread → r'.main.tokens.items ≡ r.main.tokens.items → r'.others.items ≡ slice_set r.others.items i q → IsKept r'
   set_kept r r' i q kept may a b c d =
       kept_of r r' a b (subst (λ (l : List Token). AreTokens (all_in r.objects) 0 l) (sym c) kept.tokens)
-        (λ j p at_p. may_set r.others.items i q may kept.may_run j p (ap (λ (l : List (Place G)). slice_get l j) (sym d) ∙ at_p)) kept
+      (λ j p at_p. may_set r.others.items i q may kept.may_run j p (ap (λ (l : List (Place G)). slice_get l j) (sym d) ∙ at_p)) kept
 
   idle_may : (q : Place G) → q ≡ places.Idle → MayRun q
   idle_may q is = subst (λ (z : Place G). MayRun z) (sym is) tt

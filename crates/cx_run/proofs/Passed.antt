@@ -123,7 +123,7 @@ one_taken xs ks ks' others n m i x d y v are theirs so_far turn is takes more =
     let at_k = was_at xs ks ks' (λ o x k k'. (other : Token) → slice_get others o ≡ Some other → TakesIn x other k k') n d so_far (omega (arith, low, many, mine)) in
     let takes' : TakesIn x y (get_or ks' n d) v = subst (λ j. TakesIn x y (get_or ks' j d) v) turn.number takes in
     rw (more, turn.number) (one_gone xs ks ks' (λ o x k k'. (other : Token) → slice_get others o ≡ Some other → TakesIn x other k k') n x (get_or ks' n d) v so_far at_x at_k
-      (λ other at_other. subst (λ (z : Token). TakesIn x z (get_or ks' n d) v) (is_one (slice_get others n) y other turn.there at_other) takes'))
+    (λ other at_other. subst (λ (z : Token). TakesIn x z (get_or ks' n d) v) (is_one (slice_get others n) y other turn.there at_other) takes'))
 
 pub all_taken : (xs : List RunObject) (ks ks' others : List Token) (n : ℕ) → (t : ℕ) × AreTokens xs t ks → (u : ℕ) × AreTokens xs u others → GoneSoFar xs ks ks' (λ o x k k'. (other : Token) → slice_get others o ≡ Some other → TakesIn x other k k') n → n ≡ length (enumerate_from 0 others) → AllTakeIn xs others ks ks'
 all_taken xs ks ks' others n are theirs so_far end =

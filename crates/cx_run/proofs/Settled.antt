@@ -112,9 +112,9 @@ none_before (e ∷ es) fs p h = let there : e ∷ (es ++ p.0) ≡ fs = p.1 in cc
 pub settled : (s : Scene) (xs : List RunObject) (ks : List Token) (f : Fronts) (n : ℕ) → AreMadeAs s.objects xs → AreTokens xs 0 ks → AreShown xs ks f → ((o : ℕ) (k : Token) → slice_get ks o ≡ Some k → splits_of k ≡ n) → AreSettled s ks f n
 settled s xs ks f n made are shown split = record {
   legal = λ o d at_d.
-    let x = at_same s.objects xs o d (sym made.count) at_d in
-    let k = at_same xs ks o x.0 (sym are.count) x.1 in
-    token_legal d x.0 k.0 (f o) (made.each o d x.0 at_d x.1) (shown.each o x.0 k.0 x.1 k.1);
+      let x = at_same s.objects xs o d (sym made.count) at_d in
+      let k = at_same xs ks o x.0 (sym are.count) x.1 in
+      token_legal d x.0 k.0 (f o) (made.each o d x.0 at_d x.1) (shown.each o x.0 k.0 x.1 k.1);
   gone = λ u h grows taken o. gone_at u h grows taken o (slice_get xs o) refl;
   above = λ u high o. above_at u high o (slice_get xs o) refl;
 }

@@ -73,11 +73,11 @@ module _ {G : Type 0} where
   pub made_run : (r r' : Run G) (result : Result Item NoMemory) (os : List RunObject) (plan : Plan) → IsRun r → os ≡ all_in r.objects → scene_of plan ≡ scene_in r.objects → r'.objects ≡ r.objects → r'.main.thread ≡ r.main.thread → r'.others ≡ r.others → AreTokens os r'.main.thread.0 r'.main.tokens.items → IfOk result (λ x. r'.main.list.items ≡ r.main.list.items ++ x ∷ []) → IfOk result (λ x. StepsOn os r.main.tokens.items r'.main.tokens.items x) → IfOk result (λ x. is_made_alone x ≡ true) → OnOk result (IsAt (scene_of plan) r'.main) → OnOk result (IsRun r')
   made_run r r' (Ok x) os plan run is_os is_plan a b d are grown steps alone at_ =
       made_item r r' x run a b d
-        (subst (λ (l : List RunObject). AreTokens l r'.main.thread.0 r'.main.tokens.items) is_os are)
-        grown
-        (subst (λ (l : List RunObject). StepsOn l r.main.tokens.items r'.main.tokens.items x) is_os steps)
-        alone
-        (subst (λ (s : Scene). IsAt s r'.main) is_plan at_)
+      (subst (λ (l : List RunObject). AreTokens l r'.main.thread.0 r'.main.tokens.items) is_os are)
+      grown
+      (subst (λ (l : List RunObject). StepsOn l r.main.tokens.items r'.main.tokens.items x) is_os steps)
+      alone
+      (subst (λ (s : Scene). IsAt s r'.main) is_plan at_)
   made_run r r' (Err e) os plan run is_os is_plan a b d are grown steps alone at_ = tt
 
   pub made_counts : (now : Tally) (list list' : List Item) (ps : List (Place G)) (result : Result Item NoMemory) → IfOk result (λ x. list' ≡ list ++ x ∷ []) → IfOk result (λ x. is_made_alone x ≡ true) → OnOk result ((base : Tally) → IsTallied base now list (steps_in ps) → IsTallied base now list' (steps_in ps))

@@ -59,8 +59,8 @@ same_splits xs ks ks' t n are goes split o k' at_k =
 pub met_tokens : (xs : List RunObject) (others ks ks' : List Token) (t u : ℕ) → AreTokens xs t others → AllMet xs others ks ks' → AreTokens xs u ks → AreTokens xs u ks'
 met_tokens xs others ks ks' t u are goes mine =
     tokens_go xs ks ks' (λ o x k k'. (other : Token) → slice_get others o ≡ Some other → HasMet x other k k') u goes
-      (λ o x k k' at p token. let other = at_same ks others o k (mine.count ∙ sym are.count) at in (p other.0 other.1).token u token)
-      mine
+    (λ o x k k' at p token. let other = at_same ks others o k (mine.count ∙ sym are.count) at in (p other.0 other.1).token u token)
+    mine
 
 both_nothing : (u : ℕ) (F H : List Entry) → F ≡ [] → H ≡ [] → IsBoth u F H []
 both_nothing u F H no_F no_H = record {
@@ -115,8 +115,8 @@ met_shown xs others ks ks' t u f h theirs mine goes shown_f shown_h = gathered x
 pub took_tokens : (xs : List RunObject) (others ks ks' : List Token) (t u : ℕ) → AreTokens xs u others → AllTakeIn xs others ks ks' → AreTokens xs t ks → AreTokens xs t ks'
 took_tokens xs others ks ks' t u theirs goes mine =
     tokens_go xs ks ks' (λ o x k k'. (other : Token) → slice_get others o ≡ Some other → TakesIn x other k k') t goes
-      (λ o x k k' at p token. let other = at_same ks others o k (mine.count ∙ sym theirs.count) at in (p other.0 other.1).token t token)
-      mine
+    (λ o x k k' at p token. let other = at_same ks others o k (mine.count ∙ sym theirs.count) at in (p other.0 other.1).token t token)
+    mine
 
 pub took_shown : (xs : List RunObject) (others ks ks' : List Token) (t u : ℕ) (f h : Fronts) → AreTokens xs u others → AreTokens xs t ks → AllTakeIn xs others ks ks' → AreShown xs others f → AreShown xs ks h → Meets xs ks' t f h
 took_shown xs others ks ks' t u f h theirs mine goes shown_f shown_h = gathered xs ks' t f h (λ o. go o (slice_get xs o) refl)

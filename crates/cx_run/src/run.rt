@@ -97,7 +97,13 @@ impl<G: Gate + Send + Sync> Run<G> {
         let main = Standing::start(alloc, plan, MAIN, tokens, room)?;
         let mut others = Vec::with_capacity(alloc, threads.len())?;
         for (i, tokens) in threads.into_iter().enumerate() {
-            let work = Work::new(alloc, objects.share()?, after(i)?, tokens, Arc::try_clone(gate)?)?;
+            let work = Work::new(
+                alloc,
+                objects.share()?,
+                after(i)?,
+                tokens,
+                Arc::try_clone(gate)?,
+            )?;
             others.push(Place::Waiting(work))?;
         }
         Ok(Run {
@@ -309,7 +315,11 @@ impl<G: Gate + Send + Sync> Run<G> {
         match mem::replace(&mut self.others[i], Place::Idle) {
             Place::Waiting(work) => {
                 let objects = self.objects.all.as_slice();
-                take_all_in(objects, self.main.tokens.as_mut_slice(), work.standing.tokens);
+                take_all_in(
+                    objects,
+                    self.main.tokens.as_mut_slice(),
+                    work.standing.tokens,
+                );
                 Ok(())
             }
             Place::Running(thread) => {
@@ -326,11 +336,7 @@ impl<G: Gate + Send + Sync> Run<G> {
     }
 
     /// After want of memory: main gives up what it holds, and waits until every thread has ended.
-    pub(crate) fn give_up<P: Spawner<Work<G>>, R: Threads + Wait>(
-        self,
-        rt: &R,
-        spawner: &mut P,
-    )
+    pub(crate) fn give_up<P: Spawner<Work<G>>, R: Threads + Wait>(self, rt: &R, spawner: &mut P)
         requires kept { IsKept self }
     {
         let Run {

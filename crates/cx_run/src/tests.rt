@@ -160,12 +160,7 @@ fn two_calls(alloc: Global) -> Result<Plan, NoMemory>
         Object::Semaphore { count: 1, max: 1 },
         Object::Semaphore { count: 1, max: 1 },
     ];
-    let main = [
-        Call::Start(A),
-        Call::Start(B),
-        Call::Join(A),
-        Call::Join(B),
-    ];
+    let main = [Call::Start(A), Call::Start(B), Call::Join(A), Call::Join(B)];
     let main = Vec::from_array(alloc, main)?;
     let a = Vec::from_array(alloc, [Call::Acquire(ObjectNo(0))])?;
     let b = Vec::from_array(alloc, [Call::Acquire(ObjectNo(1))])?;

@@ -28,7 +28,7 @@ loop-i-preserved c =
     record {
       from = one_gone _ _ _ _ i x from c.meet.new.from c.loop-i.invariant.from at_x at_from c.meet.ensures.from;
       to = one_gone _ _ _ _ i x to c.meet.new.to c.loop-i.invariant.to at_x at_to
-        (λ other at_other. subst (λ (z : Token). HasMet x z to c.meet.new.to) (is_one (slice_get c.args.from.now i) from other at_from at_other) c.meet.ensures.to);
+          (λ other at_other. subst (λ (z : Token). HasMet x z to c.meet.new.to) (is_one (slice_get c.args.from.now i) from other at_from at_other) c.meet.ensures.to);
     }
 
 pub returns : goal.returns

@@ -20,12 +20,11 @@ take_in-requires-clause-other c =
 
 pub loop-i-preserved : goal.loop-i-preserved
 loop-i-preserved c =
-    let turn = YieldsList-turn (YieldsList-at c.into_iter-i-iterator.ensures.into_iter_gives (YieldsList-from_enumerate (YieldsList-at c.enumerate-i-items.ensures.source (YieldsList-from_vec c.args.others.items c.into_iter.ensures.rest (c.into_iter.ensures.len ∙ c.args.others.ok.0))) c.enumerate-i-items.ensures.count)) c.loop-i.yielded c.loop-i.i-iterator c.loop-i.yielded_by c.next.result c.next.new.self (c.in-Some.i, c.in-Some.other) c.in-Some.is c.next.ensures.steps in
-    (
+    let turn = YieldsList-turn (YieldsList-at c.into_iter-i-iterator.ensures.into_iter_gives (YieldsList-from_enumerate (YieldsList-at c.enumerate-i-items.ensures.source (YieldsList-from_vec c.args.others.items c.into_iter.ensures.rest (c.into_iter.ensures.len ∙ c.args.others.ok.0))) c.enumerate-i-items.ensures.count)) c.loop-i.yielded c.loop-i.i-iterator c.loop-i.yielded_by c.next.result c.next.new.self (c.in-Some.i, c.in-Some.other) c.in-Some.is c.next.ensures.steps in (
       search rules,
       tt,
       one_taken _ _ _ c.args.others.items _ _ _ _ c.index-tokens-i.result c.in-Some.other _ c.requires.tokens c.requires.others c.loop-i.invariant.2 (turn_is c.args.others.items (length c.loop-i.yielded) c.in-Some.i c.in-Some.other turn.0 turn.1) c.index-objects-i.is c.take_in.ensures
-        (length_push c.loop-i.yielded (c.in-Some.i, c.in-Some.other)),
+          (length_push c.loop-i.yielded (c.in-Some.i, c.in-Some.other)),
     )
 
 pub returns : goal.returns

@@ -11,5 +11,5 @@ invariant-loop-i g l = record {
   local : l.self.main.local ≡ l.initial.self.main.local;
   many : length l.self.others.items ≡ length l.initial.self.others.items;
   counts : KeepsTally l.initial.self (tally (g.P.Spawner.faults l.initial.spawner) (g.P.Spawner.started l.initial.spawner) (g.P.Spawner.carried l.initial.spawner)) l.self (tally (g.P.Spawner.faults l.spawner) (g.P.Spawner.started l.spawner) (g.P.Spawner.carried l.spawner));
-  come : (j : ℕ) (p : Place _) → j < l.i → slice_get l.self.others.items j ≡ Some p → has_come p ≡ true
+  come : (j : ℕ) (p : Place _) → j < l.i → slice_get l.self.others.items j ≡ Some p → has_come p ≡ true;
 }

@@ -21,7 +21,7 @@ returns-clause-right g c =
     let is = recorded_is _ _ _ _ (ap (λ (p : Plan). p.version) c.deref.ensures) lists in
     let own = whole_list (scene_in r.objects) r.main.thread.0 r.main.list.items r.main.local run.kept.thread run.at_ c.requires.ended in
     subst (λ (z : Recorded). IsRightRun (scene_in r.objects) (all_in r.objects) z r.main.tokens.items) (sym is)
-      (right_run (scene_in r.objects) (all_in r.objects) r.main.list.items r.main.tokens.items r.others.items run.goes c.requires.come run.kept.made run.kept.tokens own)
+    (right_run (scene_in r.objects) (all_in r.objects) r.main.list.items r.main.tokens.items r.others.items run.goes c.requires.come run.kept.made run.kept.tokens own)
 
 pub returns-clause-steps : goal.returns-clause-steps
 returns-clause-steps g c =

@@ -20,12 +20,11 @@ new-requires-clause-tokens g c κs within =
 pub loop-i-preserved : goal.loop-i-preserved
 loop-i-preserved g c =
     let turn = YieldsList-turn (YieldsList-at c.into_iter-i-iterator.ensures.into_iter_gives (YieldsList-from_enumerate (YieldsList-at c.enumerate-i-items.ensures.source (YieldsList-from_vec c.remove-tokens.new.self.items c.into_iter.ensures.rest (c.into_iter.ensures.len ∙ c.remove-tokens.new.self.ok.0))) c.enumerate-i-items.ensures.count)) c.loop-i.yielded c.loop-i.i-iterator c.loop-i.yielded_by c.next.result c.next.new.self (c.in-Some.i, c.in-Some.tokens) c.in-Some.is c.next.ensures.steps in
-    let is_turn = turn_is c.remove-tokens.new.self.items (length c.loop-i.yielded) c.in-Some.i c.in-Some.tokens turn.0 turn.1 in
-    (
+    let is_turn = turn_is c.remove-tokens.new.self.items (length c.loop-i.yielded) c.in-Some.i c.in-Some.tokens turn.0 turn.1 in (
       search rules,
       tt,
       row_waits _ _ _ c.args.passes.threads.items _ _ _ _ _ _ _ c.in_ok-work.work _ _ c.requires.passes c.remove-tokens.ensures.items is_turn c.in_ok-share.ensures.plan c.in_ok-share.ensures.objects c.in_ok-after.ensures c.in_ok-work.ensures.needs c.in_ok-work.ensures.parts c.loop-i.invariant.2
-        (length_push c.loop-i.yielded (c.in-Some.i, c.in-Some.tokens)) c.in_ok-push.ensures.items,
+          (length_push c.loop-i.yielded (c.in-Some.i, c.in-Some.tokens)) c.in_ok-push.ensures.items,
     )
 
 pub returns-clause-run : goal.returns-clause-run
@@ -43,7 +42,7 @@ returns-clause-run g c =
     let at_0 = first_row rows.items c.remove-tokens.result (omega (arith, some_, rows_long)) c.remove-tokens.ensures.value in
     let at_ = subst (λ (p : Plan). IsAt (scene_of p) c.in_ok-main.main) c.deref-2.ensures c.in_ok-main.ensures.at in
     prepared (scene_in o) (all_in o) c.in_ok-share-2.field-0 c.in_ok-main.main c.loop-i.others rows.items c.remove-tokens.result (length c.loop-i.yielded) c.in_ok-share-2.ensures.plan c.in_ok-share-2.ensures.objects c.requires.runs c.requires.made c.requires.passes at_0 at_ c.in_ok-main.ensures.list (ap (λ (t : ThreadNo). t.0) c.in_ok-main.ensures.tokens.0) c.in_ok-main.ensures.tokens.1 c.loop-i.invariant.2
-      (omega (arith, rows_long, rest_long, one_less, counted, all_))
+    (omega (arith, rows_long, rest_long, one_less, counted, all_))
 
 pub returns-clause-list : goal.returns-clause-list
 returns-clause-list g c = (c.in_ok-main.ensures.list, no_steps_first _ _ _ c.loop-i.others.items c.loop-i.invariant.2)
