@@ -1,11 +1,10 @@
 -- A run as it is prepared: nobody was started, and nothing is seen.
-use Rattle.std.proofs.Common.{◌≡◌, ℕ, zero, suc, ◌+◌, ◌-◌, ◌<◌, ◌≤◌, Bool, true, false, List, [], ◌∷◌, ◌++◌, length, get_or, slice_get, ◌==◌, Option, Some, None, refl, sym, ap, ◌∙◌, subst, arith}
+use Rattle.std.proofs.Common.{◌≡◌, ℕ, zero, suc, ◌+◌, ◌-◌, ◌<◌, Bool, false, List, [], ◌∷◌, ◌++◌, length, get_or, slice_get, ◌==◌, Some, refl, sym, ap, ◌∙◌, subst, arith}
 use Rattle.std.proofs.lemmas.Bool.{eqb-false}
 use Rattle.std.specs.Global.{Vec}
 use Rattle.std.specs.List.{remove}
 use Rattle.cx_names.specs.declared.ThreadNo.{ThreadNo}
 use Rattle.cx_scene.specs.Scene.{Scene}
-use Rattle.cx_items.specs.declared.item.Item.{Item}
 use Rattle.cx_fronts.specs.Paths.{nothing}
 use Rattle.cx_fronts.proofs.Heart.{stays}
 use Rattle.cx_work.specs.declared.objects.Objects.{Objects}

@@ -1,16 +1,15 @@
 -- A run whose threads have all come gives a record that is right.
-use Rattle.std.proofs.Common.{◌≡◌, ◌≢◌, ℕ, zero, suc, ◌<◌, ◌≤◌, ◌==◌, ◌||◌, Bool, true, false, IsTrue, List, [], ◌∷◌, ◌++◌, map, length, slice_get, Option, Some, None, option_and_then, refl, sym, ap, ◌∙◌, subst, arith, if◌then◌else◌, eqb-true}
+use Rattle.std.proofs.Common.{◌≡◌, ℕ, zero, suc, ◌<◌, ◌≤◌, ◌==◌, Bool, true, false, List, [], ◌∷◌, ◌++◌, map, length, slice_get, Option, Some, None, option_and_then, refl, sym, ap, ◌∙◌, subst, arith, if◌then◌else◌, eqb-true}
 use Rattle.std.proofs.lemmas.Bool.{eqb-false}
 use Rattle.cx_scene.specs.Scene.{Scene}
 use Rattle.cx_items.specs.declared.item.Item.{Item}
-use Rattle.cx_items.specs.Next.{local_at_start}
-use Rattle.cx_history.specs.Histories.{Recorded, items_of, list_of, history}
-use Rattle.cx_history.specs.Follows.{any_starts, has_started, after_items, is_whole}
+use Rattle.cx_history.specs.Histories.{items_of, list_of}
+use Rattle.cx_history.specs.Follows.{any_starts, has_started}
 use Rattle.cx_fronts.specs.Positions.{positions}
 use Rattle.cx_fronts.specs.Paths.{Fronts, nothing, none_own, Moved, Path, AreItems}
 use Rattle.cx_fronts.specs.Growing.{any_joins}
-use Rattle.cx_fronts.specs.Mains.{Main, Joined, Finished, Ending}
-use Rattle.cx_fronts.specs.Runs.{FromPasses, FromRun, IsRight, KeepsText, IsWholeBy, OnlyBarriersComplete}
+use Rattle.cx_fronts.specs.Mains.{Joined, Finished, Ending}
+use Rattle.cx_fronts.specs.Runs.{FromPasses, IsRight, KeepsText}
 use Rattle.cx_fronts.proofs.Lists.{not_equal}
 use Rattle.cx_fronts.proofs.Heart.{stays, no_more}
 use Rattle.cx_fronts.proofs.Mained.{path-same}

@@ -1,11 +1,10 @@
 -- A run goes on with each item that main makes alone.
-use Rattle.std.proofs.Common.{◌≡◌, ℕ, zero, suc, ◌<◌, Bool, true, false, List, [], ◌∷◌, ◌++◌, length, slice_get, slice_set, Option, Some, None, refl, sym, ap, ◌∙◌, subst, arith}
+use Rattle.std.proofs.Common.{◌≡◌, ℕ, true, List, [], ◌∷◌, ◌++◌, length, slice_get, Some, refl, sym, ap, ◌∙◌, subst}
 use Rattle.atomic_table.specs.Seated.{TableId}
 use Rattle.cx_machine.specs.declared.machine.Meaning.{Ghosts}
 use Rattle.cx_mutex.specs.Kinds.{locking}
 use Rattle.cx_sync.specs.Kinds.{counting, latching}
 use Rattle.cx_turn.specs.declared.view.View.{View}
-use Rattle.cx_turn.specs.declared.view.Gone.{Gone}
 use Rattle.cx_turn.specs.declared.pass.Pass.{Pass}
 use Rattle.cx_turn.specs.Passes.{IsPassAt}
 use Rattle.cx_scene.specs.Scene.{Scene}
@@ -24,7 +23,6 @@ use Rattle.cx_run.specs.declared.place.Place.{Place}
 use Rattle.cx_run.specs.Handing.{first_taken, taken_by, splits_of, IsTaken, HaveTaken}
 use Rattle.cx_run.specs.Runs.{RunOf}
 use Rattle.cx_run.proofs.Keeping.{Stands, here, elsewhere, get_set, act_goes}
-use Rattle.cx_run.proofs.Tokens.{at_same}
 
 -- the token has taken in those that it had, and as many were split off
 pub record Keeps (k k' : Token) : Type 0 where

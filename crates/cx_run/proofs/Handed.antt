@@ -1,6 +1,5 @@
 -- What tokens of each kind show that have met another's, or have taken it in.
-use Rattle.std.proofs.Common.{◌≡◌, ℕ, Bool, true, false, List, slice_get, Option, Some, None, MatchOption, refl, sym, ap, ◌∙◌, subst}
-use mathlib.Core.List.{IsPrefix}
+use Rattle.std.proofs.Common.{◌≡◌, ℕ, true, false, List, slice_get, Option, Some, None, MatchOption, refl, sym, ap, ◌∙◌, subst}
 use Rattle.atomic_table.specs.Seated.{TableId}
 use Rattle.crossbeam_utils.specs.declared.cache_padded.CachePadded.{CachePadded}
 use Rattle.crossbeam_utils.specs.Padded.{padded_value}
@@ -18,7 +17,7 @@ use Rattle.cx_mutex.specs.declared.mutex.Hold.{Hold}
 use Rattle.cx_mutex.specs.declared.recursive.RecursiveMutex.{RecursiveMutex}
 use Rattle.cx_mutex.specs.declared.recursive.Level.{Level}
 use Rattle.cx_mutex.specs.Kinds.{locking}
-use Rattle.cx_mutex.specs.Mutexes.{IsMutexPass, IsMutexPassWith, IsBare, IsHeldBy, KeepsOwner}
+use Rattle.cx_mutex.specs.Mutexes.{IsMutexPassWith, IsBare, IsHeldBy, KeepsOwner}
 use Rattle.cx_mutex.specs.Recursives.{IsRecursivePassWith}
 use Rattle.cx_sync.specs.declared.semaphore.Semaphore.{Semaphore}
 use Rattle.cx_sync.specs.declared.latch.Latch.{Latch}
@@ -30,7 +29,6 @@ use Rattle.cx_work.specs.declared.token.MutexToken.{MutexToken}
 use Rattle.cx_work.specs.declared.token.LevelToken.{LevelToken}
 use Rattle.cx_work.specs.declared.token.Token.{Token}
 use Rattle.cx_work.specs.declared.token.Token.TheVariants as tokens
-use Rattle.cx_work.specs.Tokens.{IsMutexToken, IsLevelToken}
 use Rattle.cx_work.proofs.Passing.{same_number}
 use Rattle.cx_run.specs.Handing.{IsATokenOf, HasMet, TakesIn}
 use Rattle.cx_run.proofs.Meeting.{met, joined, taken_more}

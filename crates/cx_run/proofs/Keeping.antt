@@ -1,6 +1,5 @@
 -- What is so of a run stays so with each item of main, each start and each join.
-use Rattle.std.proofs.Common.{◌≡◌, ◌⊎◌, inl, inr, ℕ, zero, suc, ◌<◌, ◌≤◌, ◌==◌, ◌||◌, Bool, true, false, List, [], ◌∷◌, ◌++◌, length, slice_get, slice_set, Option, Some, None, Vec, Global, refl, sym, ap, ◌∙◌, subst, arith, eqb-true, eq-eqb, append-nil, if◌then◌else◌}
-use Rattle.std.proofs.lemmas.Bool.{eqb-false}
+use Rattle.std.proofs.Common.{◌≡◌, ℕ, zero, suc, ◌<◌, ◌≤◌, ◌==◌, ◌||◌, Bool, true, false, List, [], ◌∷◌, ◌++◌, length, slice_get, slice_set, Some, Vec, Global, refl, sym, ap, ◌∙◌, subst, arith, eqb-true, eq-eqb, append-nil, if◌then◌else◌}
 use Rattle.cx_names.specs.declared.ThreadNo.{ThreadNo}
 use Rattle.cx_scene.specs.Scene.{Scene}
 use Rattle.cx_items.specs.declared.item.Control.TheVariants as controls
@@ -27,8 +26,8 @@ use Rattle.cx_work.specs.Steps.{is_made_alone}
 use Rattle.cx_work.specs.Tokens.{AreTokens, AreShown}
 use Rattle.cx_run.specs.declared.place.Place.{Place}
 use Rattle.cx_run.specs.declared.place.Place.TheVariants as places
-use Rattle.cx_run.specs.Handing.{splits_of, IsBoth, AllAsBefore, AllMet, AllTakeIn, HaveTaken}
-use Rattle.cx_run.specs.Runs.{IsReady, IsOff, HasEnded, HasCome, WasIdle, IsPlace, RunOf}
+use Rattle.cx_run.specs.Handing.{splits_of, AllAsBefore, AllMet, AllTakeIn, HaveTaken}
+use Rattle.cx_run.specs.Runs.{IsReady, IsOff, HasCome, WasIdle, IsPlace, RunOf}
 use Rattle.cx_run.proofs.Tokens.{Meets, same_shown, same_taken, same_splits, met_shown, took_shown, took_them, took_more, took_splits}
 
 -- ---- lists

@@ -1,43 +1,37 @@
 -- What is so of a run stays so, by its parts.
-use Rattle.std.proofs.Common.{◌≡◌, ℕ, zero, suc, ◌+◌, ◌-◌, ◌<◌, ◌≤◌, Bool, true, false, IsTrue, List, [], ◌∷◌, ◌++◌, length, slice_get, slice_set, Option, Some, None, Result, Ok, Err, IfSome, MatchOption, get_or, refl, sym, ap, ◌∙◌, subst, arith}
+use Rattle.std.proofs.Common.{◌≡◌, ℕ, zero, suc, ◌+◌, ◌-◌, ◌<◌, Bool, true, false, List, [], ◌∷◌, ◌++◌, length, slice_get, slice_set, Option, Some, None, Result, Ok, Err, IfSome, MatchOption, get_or, refl, sym, ap, ◌∙◌, subst, arith}
 use Rattle.std.specs.Global.{Vec}
 use Rattle.std.specs.Vec.{with_items}
 use Rattle.std.proofs.lemmas.List.{with_items_is}
 use Rattle.cx_names.specs.declared.ThreadNo.{ThreadNo}
 use Rattle.cx_names.specs.declared.Errc.{Errc}
-use Rattle.cx_scene.specs.declared.declared.Thread.{Thread as Declared}
-use Rattle.cx_scene.specs.declared.declared.Thread.TheVariants as threads
 use Rattle.cx_scene.specs.Scene.{Scene}
 use Rattle.cx_items.specs.declared.item.Control.TheVariants as controls
 use Rattle.cx_items.specs.declared.item.Item.{Item}
 use Rattle.cx_items.specs.declared.item.Item.TheVariants as items
-use Rattle.cx_items.specs.Next.{is_ended}
-use Rattle.cx_items.specs.Steps.{local_of}
-use Rattle.cx_fronts.specs.Positions.{positions}
 use Rattle.cx_fronts.specs.Paths.{Fronts}
 use Rattle.cx_fronts.specs.Counts.{change_count}
 use Rattle.cx_io.specs.Spawning.{Raised}
 use Rattle.cx_io.proofs.Counts.{raised_none, at_least_none}
 use Rattle.cx_jthread.specs.declared.thread.Thread.{Thread}
 use Rattle.cx_jthread.specs.Threads.{job_to_join}
-use Rattle.cx_work.specs.declared.objects.Objects.{Objects}
 use Rattle.cx_work.specs.declared.objects.RunObject.{RunObject}
 use Rattle.cx_work.specs.declared.standing.Standing.{Standing}
 use Rattle.cx_work.specs.declared.token.Token.{Token}
 use Rattle.cx_work.specs.declared.work.Work.{Work}
 use Rattle.cx_work.specs.declared.work.Ended.{Ended}
 use Rattle.cx_work.specs.Bodies.{Needs, Gives, IsBody, scene_in, all_in}
-use Rattle.cx_work.specs.Steps.{StandsAt, IsAt, StepsOn, is_made_alone}
+use Rattle.cx_work.specs.Steps.{IsAt, StepsOn, is_made_alone}
 use Rattle.cx_work.specs.Tokens.{AreTokens, AreShown}
 use Rattle.cx_run.specs.declared.place.Place.{Place}
 use Rattle.cx_run.specs.declared.place.Place.TheVariants as places
 use Rattle.cx_run.specs.declared.run.Run.{Run}
 use Rattle.cx_run.specs.Handing.{AllAsBefore, AllMet, AllTakeIn}
-use Rattle.cx_run.specs.Runs.{Tally, tally, IsTallied, IsReady, IsOff, IsBegun, MayRun, IsPlace, RunOf, IsAwaited, IsKept, IsRun, IsAtEnd, IsHere, HasComeAt, KeepsTally, has_come, steps_at, steps_in}
+use Rattle.cx_run.specs.Runs.{Tally, IsTallied, IsReady, IsOff, IsBegun, MayRun, RunOf, IsAwaited, IsKept, IsRun, IsHere, steps_at, steps_in}
 use Rattle.cx_run.proofs.Going.{made_alone}
-use Rattle.cx_run.proofs.Keeping.{Stands, here, elsewhere, get_set, length_set, start_goes, refusal_goes, join_goes, idle_goes, late_goes}
+use Rattle.cx_run.proofs.Keeping.{Stands, here, elsewhere, get_set, start_goes, refusal_goes, join_goes, idle_goes, late_goes}
 use Rattle.cx_run.proofs.Passed.{read_at}
-use Rattle.cx_run.proofs.Tallying.{tallied_none, tallied_more, tallied_alone, steps_set}
+use Rattle.cx_run.proofs.Tallying.{tallied_more, tallied_alone, steps_set}
 use Rattle.cx_run.proofs.Tokens.{same_tokens, met_tokens, took_tokens}
 
 -- ---- lists

@@ -1,12 +1,11 @@
 -- How far a pass over all tokens has come.
-use Rattle.std.proofs.Common.{◌≡◌, ◌⊎◌, inl, inr, ℕ, zero, suc, ◌+◌, ◌<◌, ◌≤◌, List, [], ◌∷◌, length, get_or, set, slice_get, slice_set, Option, Some, None, refl, sym, ap, ◌∙◌, subst, arith}
+use Rattle.std.proofs.Common.{◌≡◌, ℕ, zero, suc, ◌+◌, ◌<◌, ◌≤◌, List, [], ◌∷◌, length, get_or, set, slice_get, slice_set, Option, Some, refl, sym, ap, ◌∙◌, subst, arith}
 use Rattle.std.specs.List.{enumerate_from}
 use Rattle.cx_work.specs.declared.objects.RunObject.{RunObject}
 use Rattle.cx_work.specs.declared.token.Token.{Token}
 use Rattle.cx_work.specs.Tokens.{AreTokens}
 use Rattle.cx_run.specs.Handing.{IsATokenOf, TakesIn, EachGoes, AllTakeIn}
 use Rattle.cx_run.proofs.Keeping.{Stands, here, elsewhere, get_set, length_set}
-use Rattle.cx_run.proofs.Tokens.{at_same}
 
 -- those below n have gone so, and the others are as they were
 pub record GoneSoFar (xs : List RunObject) (ks ks' : List Token) (P : ℕ → RunObject → Token → Token → Type 0) (n : ℕ) : Type 0 where

@@ -1,5 +1,5 @@
 -- A run whose threads have all come gives what is promised.
-use Rattle.std.proofs.Common.{◌≡◌, ℕ, zero, suc, ◌+◌, ◌<◌, ◌≤◌, Bool, true, false, IsTrue, Result, Ok, Err, is_err, OnOk, List, [], ◌∷◌, map, length, slice_get, Option, Some, None, refl, sym, ap, ◌∙◌, subst, arith}
+use Rattle.std.proofs.Common.{◌≡◌, ℕ, zero, suc, ◌<◌, ◌≤◌, Bool, true, false, IsTrue, Result, Ok, Err, is_err, OnOk, List, length, slice_get, Option, Some, refl, ap, ◌∙◌, subst, arith}
 use Rattle.cx_turn.specs.Views.{IsIn}
 use Rattle.cx_scene.specs.Scene.{Scene}
 use Rattle.cx_items.specs.declared.item.Item.{Item}
@@ -20,7 +20,7 @@ use Rattle.cx_run.specs.declared.place.Place.{Place}
 use Rattle.cx_run.specs.declared.place.Place.TheVariants as places
 use Rattle.cx_run.specs.Handing.{taken_by, HaveTaken}
 use Rattle.cx_run.specs.Runs.{HasCome, IsPlace, IsWholeList, RunOf, AreSettled, has_come, record_of}
-use Rattle.cx_run.specs.Results.{AreWhole, IsRightRun}
+use Rattle.cx_run.specs.Results.{IsRightRun}
 use Rattle.cx_run.proofs.Settled.{taken_is_in, settled}
 use Rattle.cx_run.proofs.Ending.{high, run_is_right}
 

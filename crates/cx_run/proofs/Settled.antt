@@ -1,9 +1,8 @@
 -- What main's tokens know of their fronts.
-use Rattle.std.proofs.Common.{◌≡◌, ◌⊎◌, inl, inr, ℕ, zero, suc, ◌<◌, ◌≤◌, Bool, true, false, List, [], ◌∷◌, ◌++◌, length, slice_get, Option, Some, None, is_some, IsSome, option_map, refl, sym, ap, ◌∙◌, subst, arith}
+use Rattle.std.proofs.Common.{◌≡◌, inl, inr, ℕ, zero, suc, ◌<◌, List, [], ◌∷◌, ◌++◌, slice_get, Option, Some, None, is_some, IsSome, option_map, refl, sym, ap, ◌∙◌, subst, arith}
 use mathlib.Core.List.{IsPrefix}
 use Rattle.atomic_table.specs.Seated.{TableId}
 use Rattle.cx_machine.specs.declared.kind.Entry.{Entry}
-use Rattle.cx_machine.specs.declared.kind.Kind.TheVariants as kinds
 use Rattle.cx_machine.specs.declared.machine.Meaning.{Ghosts}
 use Rattle.cx_machine.specs.Meaning.{run}
 use Rattle.cx_machine.specs.Machine as all

@@ -1,7 +1,6 @@
 -- Facts of main's steps, by the parts that its functions have at hand.
-use Rattle.std.proofs.Common.{◌≡◌, ℕ, zero, suc, ◌+◌, ◌-◌, ◌<◌, ◌≤◌, ◌&&◌, Bool, true, false, IsTrue, List, [], ◌∷◌, ◌++◌, length, slice_get, slice_set, Option, Some, None, Result, Ok, Err, IfOk, OnOk, ltb, lt-ltb, refl, sym, ap, ◌∙◌, subst, arith}
+use Rattle.std.proofs.Common.{◌≡◌, ℕ, zero, suc, ◌+◌, ◌-◌, ◌<◌, ◌≤◌, ◌&&◌, true, IsTrue, List, [], ◌∷◌, ◌++◌, length, slice_get, slice_set, Some, Result, Ok, Err, IfOk, OnOk, ltb, lt-ltb, refl, sym, ap, ◌∙◌, subst, arith}
 use Rattle.std.specs.List.{list_all}
-use Rattle.std.specs.Global.{Vec}
 use Rattle.cx_names.specs.declared.ThreadNo.{ThreadNo}
 use Rattle.cx_names.specs.declared.errors.NoMemory.{NoMemory}
 use Rattle.cx_scene.specs.declared.declared.Thread.{Thread as Declared}
@@ -21,7 +20,7 @@ use Rattle.cx_run.specs.declared.place.Place.{Place}
 use Rattle.cx_run.specs.declared.place.Place.TheVariants as places
 use Rattle.cx_run.specs.declared.run.Run.{Run}
 use Rattle.cx_run.specs.Handing.{AllAsBefore, AllMet}
-use Rattle.cx_run.specs.Runs.{Tally, IsTallied, IsRun, IsHere, KeepsTally, has_come, steps_in}
+use Rattle.cx_run.specs.Runs.{Tally, IsTallied, IsRun, IsHere, has_come, steps_in}
 use Rattle.cx_run.proofs.Keeping.{Stands, here, elsewhere, get_set, length_set, below}
 use Rattle.cx_run.proofs.Parts.{same_run, made_item, made_tally}
 

@@ -1,9 +1,8 @@
 -- A spawner's counts go on with a run's items.
-use Rattle.std.proofs.Common.{◌≡◌, ◌⊎◌, inl, inr, ℕ, zero, suc, ◌+◌, ◌^◌, ◌≤◌, Bool, true, false, List, [], ◌∷◌, ◌++◌, map, length, slice_get, slice_set, Option, Some, None, refl, sym, ap, ◌∙◌, subst, arith}
+use Rattle.std.proofs.Common.{◌≡◌, inl, inr, ℕ, zero, suc, ◌+◌, true, false, List, [], ◌∷◌, ◌++◌, map, slice_get, slice_set, Some, refl, sym, ap, subst, arith}
 use Rattle.cx_items.specs.declared.item.Control.TheVariants as controls
 use Rattle.cx_items.specs.declared.item.Item.{Item}
 use Rattle.cx_items.specs.declared.item.Item.TheVariants as items
-use Rattle.cx_fronts.specs.Counts.{change_count}
 use Rattle.cx_io.specs.Spawning.{Raised, RaisedAtLeast}
 use Rattle.cx_io.proofs.Counts.{raised_none, raised_more, at_least_none}
 use Rattle.cx_work.specs.Steps.{is_made_alone}

@@ -1,5 +1,5 @@
 -- What tokens show where threads meet, and where one takes another's in.
-use Rattle.std.specs.Prelude.{◌≡◌, ℕ, ◌+◌, List, [], ◌∷◌, length, slice_get, Some}
+use Rattle.std.specs.Prelude.{◌≡◌, ℕ, List, [], ◌∷◌, length, slice_get, Some}
 use mathlib.Core.List.{IsPrefix}
 use Rattle.cx_machine.specs.declared.kind.Entry.{Entry}
 use Rattle.cx_turn.specs.declared.view.View.{View}

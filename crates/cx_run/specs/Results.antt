@@ -6,7 +6,7 @@ use Rattle.cx_items.specs.declared.item.Item.{Item}
 use Rattle.cx_history.specs.Legal.{LegalRecord}
 use Rattle.cx_history.specs.Follows.{Follows}
 use Rattle.cx_history.specs.IsRecord.{IsRecord}
-use Rattle.cx_history.specs.Histories.{Recorded, items_of, list_of, history}
+use Rattle.cx_history.specs.Histories.{Recorded, items_of, history}
 use Rattle.cx_fronts.specs.Paths.{Fronts}
 use Rattle.cx_fronts.specs.Counts.{change_count}
 use Rattle.cx_work.specs.declared.objects.RunObject.{RunObject}

@@ -1,5 +1,5 @@
 -- What is so of a run, while main's list grows and at its end.
-use Rattle.std.specs.Prelude.{◌≡◌, ◌⊎◌, ℕ, suc, ◌+◌, ◌-◌, ◌<◌, ◌≤◌, true, false, IsTrue, List, [], ◌∷◌, map, length, slice_get, slice_set, Option, Some, None, IfSome, Bool}
+use Rattle.std.specs.Prelude.{◌≡◌, ℕ, suc, ◌+◌, ◌-◌, ◌<◌, ◌≤◌, true, false, IsTrue, List, [], ◌∷◌, map, length, slice_get, slice_set, Option, Some, None, IfSome, Bool}
 use Rattle.cx_names.specs.declared.ThreadNo.{ThreadNo}
 use Rattle.cx_machine.specs.Machine.{IsLegal}
 use Rattle.cx_scene.specs.declared.declared.Object.{Object}

@@ -21,22 +21,23 @@ use std::alloc::Global;
 use std::sync::{Arc, Wait};
 use std::thread::Threads;
 
-/// Main's tokens at the end of a run, which have taken in every other thread's.
+/// What main has seen of each object at the end of a run: the whole history.
 #[derive(Drop)]
 pub struct Fronts {
-    /// One for each object, by its number.
+    /// Main's tokens, by the objects' numbers, which have taken in every other thread's.
     pub tokens: Vec<Token>,
 }
 
-/// Runs the scenario of `objects` on them: main's calls on the calling thread, the others on threads that `spawner` starts
-/// [thread.thread.constr] and joins [thread.thread.member]. Waits for them.
+/// Runs a scenario on real threads: main's calls on the calling thread, the others on threads that `spawner` starts
+/// [thread.thread.constr] and that are joined [thread.thread.member]. Waits wherever a call of the text does.
 ///
-/// `passes` are those that `Objects::make` gave with the objects, of 1 to 64 threads, main's first. `gate` is called round each call
-/// of the text; `alloc` is where the lists are. Gives the record of what each thread did, and main's tokens, which have then taken in
-/// every other thread's. A refused start is no error: the record says so, and the thread has no list in it.
+/// `objects` are those of the scenario, at least one thread of which is main, and `passes` were made with them and have not
+/// been used. `gate` is called round each call of the text, on the thread that makes it. Each thread's list has its room before
+/// the first start.
 ///
-/// `NoMemory` where memory doesn't suffice, which comes once all threads have ended; the passes are gone then. The threads' lists are
-/// reserved before the first start. A start, a level of a recursive mutex and a place in the text take a little more.
+/// Gives the record of what each thread did, and main's tokens, which have then taken in every other thread's. A start that the
+/// spawner refuses is an item that says so, and no error. `NoMemory` comes where memory doesn't suffice, once all threads that
+/// were started have ended; the passes are gone then.
 pub fn run_on<
     G: Gate + Send + Sync,
     P: Spawner<Work<G>>,

@@ -1,4 +1,4 @@
-ghost use Rattle.std.specs.Prelude.{◌≡◌, vec_len, IfOk};
+ghost use Rattle.std.specs.Prelude.{◌≡◌, ◌≤◌, vec_len, IfOk};
 ghost use Rattle.cx_scene.specs.Scene.{scene_of};
 ghost use Rattle.cx_work.specs.RunNow.{IsRunNow};
 
@@ -10,8 +10,9 @@ use cx_names::{NoMemory, ObjectNo, Reply, ThreadNo};
 use cx_scene::{Call, Object, Plan, Thread};
 use cx_work::{Gate, Objects, Open};
 use std::alloc::Global;
-use std::sync::Arc;
 use std::sync::atomic::{AtomicBool, Ordering};
+use std::sync::{Arc, Wait};
+use std::thread::Threads;
 
 const A: ThreadNo = ThreadNo(1);
 
@@ -36,6 +37,22 @@ fn item_of(record: &Record, t: usize, i: usize) -> (u32, u32, u32) {
         Some(list) => seen(list.items.items.get(i)),
         None => (0, 0, 0),
     }
+}
+
+/// The record of a run on real threads.
+fn run_real<G: Gate + Send + Sync, R: Threads + Wait + Copy + Send + 'static>(
+    rt: &R,
+    alloc: Global,
+    plan: &Plan,
+    gate: &Arc<G, Global>,
+) -> Result<Record, NoMemory>
+    requires now { IsRunNow (scene_of plan.now) }
+    requires threads { (1 ≤ vec_len plan.now.threads) × (vec_len plan.now.threads ≤ 64) }
+{
+    let (objects, passes) = Objects::make(alloc, plan)?;
+    let mut real = Real::new(alloc);
+    let (record, _fronts) = run_on(rt, alloc, &objects, passes, &mut real, gate)?;
+    Ok(record)
 }
 
 /// Main waits for what `a` releases, and both lock a mutex.
@@ -75,10 +92,8 @@ fn two_threads(alloc: Global) -> Result<Plan, NoMemory>
 #[test]
 fn two_threads_run(rt: HostRuntime) -> Result<(), NoMemory> {
     let plan = two_threads(rt.alloc())?;
-    let (objects, passes) = Objects::make(rt.alloc(), &plan)?;
     let gate = Arc::new(rt.alloc(), Open)?;
-    let mut real = Real::new(rt.alloc());
-    let (record, _fronts) = run_on(&rt, rt.alloc(), &objects, passes, &mut real, &gate)?;
+    let record = run_real(&rt, rt.alloc(), &plan, &gate)?;
     assert_eq!(rt; record.lists.len(), 2);
     let main = [
         (3, 1, 0),
@@ -177,15 +192,13 @@ fn two_calls(alloc: Global) -> Result<Plan, NoMemory>
 #[test]
 fn two_calls_meet(rt: HostRuntime) -> Result<(), NoMemory> {
     let plan = two_calls(rt.alloc())?;
-    let (objects, passes) = Objects::make(rt.alloc(), &plan)?;
     let meeting = Meeting {
         a: AtomicBool::new(false),
         b: AtomicBool::new(false),
         given_up: AtomicBool::new(false),
     };
     let gate = Arc::new(rt.alloc(), meeting)?;
-    let mut real = Real::new(rt.alloc());
-    let (record, _fronts) = run_on(&rt, rt.alloc(), &objects, passes, &mut real, &gate)?;
+    let record = run_real(&rt, rt.alloc(), &plan, &gate)?;
     assert_eq!(rt; item_of(&record, 1, 0), (1, 0, 0));
     assert_eq!(rt; item_of(&record, 2, 0), (1, 1, 0));
     assert!(rt; gate.a.load(Ordering::SeqCst));

@@ -1,6 +1,6 @@
-use Rattle.std.proofs.Common.{◌≡◌, ◌<◌, length, get_or, slice_get, Some, subst, arith}
+use Rattle.std.proofs.Common.{get_or, slice_get, subst, arith}
 use Rattle.cx_work.specs.declared.token.Token.{Token}
-use Rattle.cx_run.specs.Handing.{IsAsBefore, HasMet}
+use Rattle.cx_run.specs.Handing.{HasMet}
 use Rattle.cx_run.proofs.Passed.{none_gone, one_gone, all_gone, is_one, read_at, was_at, still_token}
 use Rattle.cx_run.proofs.handing.meet_all.Goals as goal
 

@@ -1,4 +1,4 @@
-use Rattle.std.proofs.Common.{◌≡◌, ℕ, suc, List, slice_set, refl, sym, ap, ◌∙◌}
+use Rattle.std.proofs.Common.{◌≡◌, suc, slice_set, refl, ap, ◌∙◌}
 use Rattle.std.specs.Global.{Vec}
 use Rattle.cx_io.proofs.Counts.{raised_none}
 use Rattle.cx_work.specs.declared.objects.RunObject.{RunObject}

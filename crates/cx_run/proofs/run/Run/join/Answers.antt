@@ -9,7 +9,6 @@ use Rattle.cx_items.specs.declared.item.Item.TheVariants as items
 use Rattle.cx_history.specs.IsRecord.{can_start}
 use Rattle.cx_fronts.specs.Runs.{is_barrier}
 use Rattle.cx_work.specs.declared.objects.Objects.{Objects}
-use Rattle.cx_work.specs.declared.objects.RunObject.{RunObject}
 use Rattle.cx_work.specs.declared.standing.Standing.{Standing}
 use Rattle.cx_work.specs.declared.token.Token.{Token}
 use Rattle.cx_work.specs.Bodies.{scene_in, all_in}
