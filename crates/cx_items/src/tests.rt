@@ -1,4 +1,4 @@
-use crate::{Control, Form, Item, Local, Wanted};
+use crate::{Control, Form, Forms, Item, Local, Wanted};
 use cx_machine::{Entry, Look, Op};
 use cx_names::{NoMemory, ObjectNo, Reply, ThreadNo};
 use cx_scene::{Call, Object, Plan, Thread};
@@ -130,6 +130,8 @@ fn a_completion_is_due_or_left_out(rt: HostRuntime) -> Result<(), NoMemory> {
     assert!(rt; arrived);
     main.offered(&plan, MAIN, &mut forms)?;
     assert_eq!(rt; forms.len(), 2);
+    main.offered_now(&plan, MAIN, &mut forms)?;
+    assert!(rt; matches!(forms.as_slice(), [Form::Says(Reply::Number(1))]));
     main.settle();
     assert!(rt; matches!(main.due_reply(), Some(Reply::Number(1))));
     Ok(())
@@ -175,5 +177,24 @@ fn a_semaphore_is_full(rt: HostRuntime) -> Result<(), NoMemory> {
     let looked = main.after_item(&plan, MAIN, false, &Item::Look(FIRST, over))?;
     assert!(rt; looked);
     assert!(rt; matches!(main.due_reply(), Some(Reply::Over)));
+    Ok(())
+}
+
+#[test]
+fn forms_are_put_behind_others(rt: HostRuntime) -> Result<(), NoMemory> {
+    let (yes, no) = (Form::Says(Reply::True), Form::Says(Reply::False));
+    let mut out = Vec::new(rt.alloc());
+    Forms::One(Form::Says(Reply::Ok)).push_to(&mut out)?;
+    Forms::Two(yes, no).push_to(&mut out)?;
+    assert!(rt;
+        matches!(
+            out.as_slice(),
+            [
+                Form::Says(Reply::Ok),
+                Form::Says(Reply::True),
+                Form::Says(Reply::False)
+            ]
+        )
+    );
     Ok(())
 }

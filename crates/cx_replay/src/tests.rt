@@ -1,4 +1,4 @@
-use crate::{Replayed, replay};
+use crate::{Replayed, replay, replay_plan};
 use cx_history::{List, Record};
 use cx_items::Item;
 use cx_names::NoMemory;
@@ -16,6 +16,14 @@ const NO_UNIT: &[u8] = b"cxthread 1\nsemaphore q 0 1\nmain\nacquire q\nend\n";
 fn replayed(alloc: Global, text: &[u8], seed: Option<u64>) -> Result<Replayed, NoMemory> {
     match read(alloc, text) {
         Ok(scenario) => replay(alloc, &scenario, seed),
+        Err(_) => Err(NoMemory),
+    }
+}
+
+/// The same by the plan alone.
+fn plan_replayed(alloc: Global, text: &[u8], seed: Option<u64>) -> Result<Replayed, NoMemory> {
+    match read(alloc, text) {
+        Ok(scenario) => replay_plan(alloc, scenario.plan(), seed),
         Err(_) => Err(NoMemory),
     }
 }
@@ -62,6 +70,15 @@ fn the_lowest_thread_goes_first(rt: HostRuntime) -> Result<(), NoMemory> {
 #[test]
 fn a_seed_draws_the_other(rt: HostRuntime) -> Result<(), NoMemory> {
     let outcome = replayed(rt.alloc(), TWO_UNITS, Some(0))?;
+    assert!(rt; ended_so(&outcome, 2, 1));
+    Ok(())
+}
+
+#[test]
+fn a_plan_is_replayed(rt: HostRuntime) -> Result<(), NoMemory> {
+    let outcome = plan_replayed(rt.alloc(), TWO_UNITS, None)?;
+    assert!(rt; ended_so(&outcome, 1, 2));
+    let outcome = plan_replayed(rt.alloc(), TWO_UNITS, Some(0))?;
     assert!(rt; ended_so(&outcome, 2, 1));
     Ok(())
 }

@@ -1,6 +1,6 @@
 use crate::{
-    Form, ItemForm, Lines, Row, Value, is_text, put_form, put_line, read_form, read_line,
-    split_words,
+    Form, ItemForm, Lines, Row, Value, is_text, put_form, put_line, put_number, put_value,
+    read_form, read_line, split_words,
 };
 use std::alloc::{AllocError, Global};
 
@@ -103,5 +103,20 @@ fn forms_of_a_scenario(rt: HostRuntime) -> Result<(), AllocError> {
     let mut out = Vec::new(rt.alloc());
     put_form(&mut out, Form::Join, values.as_slice())?;
     assert!(rt; out.as_slice() == b"join main\n".as_slice());
+    Ok(())
+}
+
+#[test]
+fn numbers_and_values_are_added(rt: HostRuntime) -> Result<(), AllocError> {
+    let mut out = b"add ".to_vec(rt.alloc())?;
+    put_number(&mut out, -9_223_372_036_854_775_808)?;
+    out.push(b' ')?;
+    put_number(&mut out, 0)?;
+    out.push(b' ')?;
+    put_value(&mut out, Value::Word(b"main"))?;
+    out.push(b' ')?;
+    put_value(&mut out, Value::Number(18_446_744_073_709_551_616))?;
+    let want = b"add -9223372036854775808 0 main 18446744073709551616";
+    assert!(rt; out.as_slice() == want.as_slice());
     Ok(())
 }

@@ -7,7 +7,10 @@ ghost use Rattle.cx_turn.specs.Passes.{IsPassOf, IsPassWith, seats_of};
 ghost use Rattle.cx_turn.specs.GoesOn.{GoesOn, kept, counting};
 
 use crate::{Pass, Turn};
-use cx_machine::{Entry, Machine, Op, SemaphoreMachine, SemaphoreState, StopMachine, StopRegistry};
+use cx_machine::{
+    Entry, LatchMachine, LatchState, Machine, Op, SemaphoreMachine, SemaphoreState, StopMachine,
+    StopRegistry,
+};
 use cx_names::{NoMemory, Reply, ThreadNo};
 use std::alloc::Global;
 use std::snapshot::Snapshot;
@@ -21,6 +24,11 @@ type Gate = Turn<SemaphoreMachine, SemaphoreState>;
 type Token = Pass<SemaphoreMachine>;
 
 type Answer = Option<(Reply, u32)>;
+
+type Door = Turn<LatchMachine, LatchState>;
+
+// The share and the changes that a pass or a note has.
+type Part = (u32, u32);
 
 // Makes the change if it is enabled, and gives its reply and its position.
 fn act<R: Wait>(rt: &R, gate: &Gate, pass: &mut Token, op: Op, n: i64) -> Answer
@@ -216,6 +224,73 @@ fn reserves<R: Wait>(rt: &R, alloc: Global) -> Result<bool, NoMemory> {
     let done = held.reserve().is_ok();
     held.leave();
     Ok(done)
+}
+
+// A note of one unit is cut off the pass of a latch of two, and cut again. Gives what each has then.
+fn cuts(alloc: Global) -> Result<[Part; 3], NoMemory> {
+    let (door, mut pass) = Door::new(alloc, LatchState::new(2), 2, 4)?;
+    let mut note = door.note(&mut pass, 1, 1, None);
+    let part = door.part(&mut note, 1);
+    Ok([
+        (pass.share(), pass.left()),
+        (note.share(), note.left()),
+        (part.share(), part.left()),
+    ])
+}
+
+// The same note goes back to its pass.
+fn cuts_and_mends(alloc: Global) -> Result<Part, NoMemory> {
+    let (door, mut pass) = Door::new(alloc, LatchState::new(2), 2, 4)?;
+    let note = door.note(&mut pass, 1, 1, None);
+    door.take_in(&mut pass, note);
+    Ok((pass.share(), pass.left()))
+}
+
+// The first pass of a latch of two gives the second one of its units.
+fn gives(alloc: Global) -> Result<[Part; 2], NoMemory> {
+    let (door, mut first) = Door::new(alloc, LatchState::new(2), 2, 4)?;
+    let mut second = door.split(&mut first, 1);
+    door.give(&mut first, &mut second, 1);
+    Ok([
+        (first.share(), first.left()),
+        (second.share(), second.left()),
+    ])
+}
+
+// The first caller releases one, and the second, who was split off before, meets it. Gives how many changes
+// the second has seen before and after.
+fn meets<R: Wait>(rt: &R, alloc: Global) -> Result<(u32, u32), NoMemory> {
+    let (gate, mut first) = Gate::new(alloc, SemaphoreState::new(0, 2), 2, 4)?;
+    let mut second = gate.split(&mut first, 1);
+    let before = second.len();
+    let _answer = act(rt, &gate, &mut first, Op::Release, 1);
+    gate.meet(&mut first, &mut second);
+    Ok((before, second.len()))
+}
+
+// Says whether the hand is empty, and whether the state has room, by what the turn lends.
+fn lends<R: Wait>(rt: &R, alloc: Global) -> Result<(bool, bool), NoMemory> {
+    let (door, mut pass) = Door::new(alloc, LatchState::new(2), 1, 4)?;
+    let mut held = door.take(rt, &mut pass);
+    let empty = held.hand().take().is_none();
+    let room = held.state_mut().reserve(1).is_ok();
+    held.leave();
+    Ok((empty, room))
+}
+
+#[test]
+fn parts_of_a_pass_go_round(rt: HostRuntime) -> Result<(), Fail> {
+    assert!(rt; cuts(rt.alloc())? == [(1, 3), (0, 1), (1, 0)]);
+    assert!(rt; cuts_and_mends(rt.alloc())? == (2, 4));
+    assert!(rt; gives(rt.alloc())? == [(1, 3), (1, 1)]);
+    assert!(rt; meets(&rt, rt.alloc())? == (0, 1));
+    Ok(())
+}
+
+#[test]
+fn a_taken_turn_lends_its_hand_and_state(rt: HostRuntime) -> Result<(), Fail> {
+    assert!(rt; lends(&rt, rt.alloc())? == (true, true));
+    Ok(())
 }
 
 #[test]
