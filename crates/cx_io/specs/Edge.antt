@@ -7,7 +7,7 @@ use Rattle.cx_io.specs.declared.sink.Pushed.TheVariants as pushed
 
 -- A count of faults rose: it is greater, or stands at the last value of a counter.
 abbrev pub Rose : ℕ → ℕ → Type 0
-Rose before now = (before < now) ⊎ (now ≡ 2 ^ 64 - 1)
+Rose before now = (before < now) ⊎ (2 ^ 64 - 1 ≤ now)
 
 -- How many bytes a pull put in front of its buffer
 abbrev pub Fits : Pulled → ℕ → Type 0

@@ -1,5 +1,5 @@
 -- What the program promises of a run on real threads.
-use Rattle.std.specs.Prelude.{◌≡◌, ◌⊎◌, ℕ, ◌+◌, ◌^◌, ◌<◌, Bool, true, false, List, [], take, Option, Some, None, Ok}
+use Rattle.std.specs.Prelude.{◌≡◌, ◌⊎◌, ℕ, ◌+◌, Bool, true, false, List, [], take, Option, Some, None, Ok}
 use Rattle.cx_io.specs.Edge.{IsRead, Rose}
 use Rattle.cx_script.specs.Script.{Script, meaning}
 use Rattle.cx_script.specs.Numbered.{numbered}
@@ -24,7 +24,7 @@ use Rattle.cxthread.specs.declared.status.Status.TheVariants as status
 
 -- A run of the scenario, on objects that open as it declares them, gave one record; the text is that of both. The record is
 -- legal, follows the scenario and is well formed. From one tally to the other the spawner's counts rose by its starts, by the
--- changes in the lists other than main's, and by at least its refused starts; where no fault was counted, in 64 bits, no start
+-- changes in the lists other than main's, and by at least its refused starts; where no fault was counted, no start
 -- was refused. Main's tokens have taken in the other threads', and show each object's history in the record.
 pub record Ran (s : Script) (old new : Tally) (fronts : Fronts) (text : List ℕ) : Type 0 where
   pub recorded : Recorded
@@ -32,7 +32,7 @@ pub record Ran (s : Script) (old new : Tally) (fronts : Fronts) (text : List ℕ
   pub follows : Follows (numbered s) recorded
   pub formed : IsRecord (numbered s) recorded
   pub tallied : IsTallied old new (list_of recorded 0) (changes_elsewhere recorded)
-  pub all_started : new.faults < 2 ^ 64 → (Rose old.faults new.faults → ⊥) → refusals_in (list_of recorded 0) ≡ 0
+  pub all_started : (Rose old.faults new.faults → ⊥) → refusals_in (list_of recorded 0) ≡ 0
   pub objects : List RunObject
   pub made : AreMadeAs (numbered s).objects objects
   pub whole : AreWhole (numbered s) objects fronts.tokens.items recorded
