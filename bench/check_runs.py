@@ -12,9 +12,9 @@ import os
 import subprocess
 import sys
 
-HERE = os.path.dirname(os.path.abspath(__file__))
-PROGRAM = os.path.join(HERE, '..', 'crates', 'cxthread', 'out', 'cxthread')
-SCENARIO = os.path.join(HERE, '..', 'examples', 'handoff.cx')
+from options import PROGRAM, built, options
+
+SCENARIO = os.path.join(os.path.dirname(os.path.abspath(__file__)), '..', 'examples', 'handoff.cx')
 
 
 def output(words, text):
@@ -22,20 +22,9 @@ def output(words, text):
     return done.returncode, done.stdout
 
 
-def main(args):
-    runs, program, scenario = 1_000, PROGRAM, SCENARIO
-    while args:
-        word = args.pop(0)
-        if word == '--runs' and args:
-            runs = int(args.pop(0))
-        elif word == '--program' and args:
-            program = args.pop(0)
-        elif word == '--scenario' and args:
-            scenario = args.pop(0)
-        else:
-            raise SystemExit(__doc__)
-    if not os.access(program, os.X_OK):
-        raise SystemExit(f'{program}: not built yet; ./cxthread builds it')
+def main():
+    words = options(__doc__, 1_000, program=PROGRAM, scenario=SCENARIO)
+    runs, program, scenario = words.runs, built(words.program), words.scenario
     with open(scenario, 'rb') as file:
         text = file.read()
     legal, records, wrong = 0, set(), None
@@ -53,4 +42,4 @@ def main(args):
         raise SystemExit(1)
 
 
-main(sys.argv[1:])
+main()

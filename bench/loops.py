@@ -16,6 +16,8 @@ import subprocess
 import sys
 import tempfile
 
+from options import options
+
 HERE = os.path.dirname(os.path.abspath(__file__))
 OURS = os.path.join(os.path.dirname(HERE), 'crates', 'cx_loops', 'out', 'cx_loops')
 PEERS = [
@@ -69,21 +71,9 @@ def least(programs, loop, often, threads, runs):
     return best
 
 
-def words(runs=5, only=''):
-    rest = sys.argv[1:]
-    while rest:
-        word, value, rest = rest[0], rest[1:2], rest[2:]
-        if word == '--runs' and value:
-            runs = int(value[0])
-        elif word == '--only' and value:
-            only = value[0]
-        else:
-            sys.exit(__doc__)
-    return runs, only
-
-
 def main():
-    runs, only = words()
+    words = options(__doc__, 5, only='')
+    runs, only = words.runs, words.only
     if not os.path.exists(OURS):
         sys.exit('bench: crates/cx_loops/out/cx_loops is missing: run `rt ci`, or `rt run -- --list` in crates/cx_loops')
     with tempfile.TemporaryDirectory() as folder:

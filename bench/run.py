@@ -24,12 +24,11 @@ last columns. It stands outside the gate, and nothing is proved of the times.
 import os
 import platform
 import subprocess
-import sys
 import tempfile
 import time
 
-HERE = os.path.dirname(os.path.abspath(__file__))
-PROGRAM = os.path.join(HERE, '..', 'crates', 'cxthread', 'out', 'cxthread')
+from options import PROGRAM, built, options
+
 LIMIT = 8_388_608
 THREADS = 63
 CALLS = 65_536
@@ -206,20 +205,9 @@ class Table:
         self.put(cells)
 
 
-def main(args):
-    runs, program, only = 5, PROGRAM, ''
-    while args:
-        word = args.pop(0)
-        if word == '--runs' and args:
-            runs = int(args.pop(0))
-        elif word == '--program' and args:
-            program = args.pop(0)
-        elif word == '--only' and args:
-            only = args.pop(0)
-        else:
-            raise SystemExit(__doc__)
-    if not os.access(program, os.X_OK):
-        raise SystemExit(f'{program}: not built yet; ./cxthread builds it')
+def main():
+    words = options(__doc__, 5, program=PROGRAM, only='')
+    runs, program, only = words.runs, built(words.program), words.only
     print(f'{time.strftime("%Y-%m-%d")}, {platform.machine()}, {os.cpu_count()} processors, least of {runs} runs')
     table = Table(program, runs)
     with tempfile.TemporaryDirectory() as folder:
@@ -248,4 +236,4 @@ def main(args):
         raise SystemExit(f'{table.wrong} inputs ended with another status than they should')
 
 
-main(sys.argv[1:])
+main()

@@ -13,13 +13,12 @@ whether the time grows with the calls alone. It stands outside the gate, and not
 import os
 import platform
 import subprocess
-import sys
 import tempfile
 import time
 
-HERE = os.path.dirname(os.path.abspath(__file__))
-PROGRAM = os.path.join(HERE, '..', 'crates', 'cxthread', 'out', 'cxthread')
-PEER = os.path.join(HERE, 'peers', 'pairs.cpp')
+from options import PROGRAM, built, options
+
+PEER = os.path.join(os.path.dirname(os.path.abspath(__file__)), 'peers', 'pairs.cpp')
 THREADS = 8
 PAIRS = (512, 1_024, 2_048)
 MUTEXES = (1, 8)
@@ -45,18 +44,9 @@ def milliseconds(words, path):
     return 1_000 * taken
 
 
-def main(args):
-    runs, program = 5, PROGRAM
-    while args:
-        word = args.pop(0)
-        if word == '--runs' and args:
-            runs = int(args.pop(0))
-        elif word == '--program' and args:
-            program = args.pop(0)
-        else:
-            raise SystemExit(__doc__)
-    if not os.access(program, os.X_OK):
-        raise SystemExit(f'{program}: not built yet; ./cxthread builds it')
+def main():
+    words = options(__doc__, 5, program=PROGRAM)
+    runs, program = words.runs, built(words.program)
     load = os.getloadavg()[0]
     print(f'{time.strftime("%Y-%m-%d")}, {platform.machine()}, {os.cpu_count()} processors, load {load:.1f}, least of {runs} runs')
     print(' '.join(f'{h:>14}' for h in HEAD))
@@ -77,4 +67,4 @@ def main(args):
                 print(' '.join(f'{c:>14}' for c in cells), flush=True)
 
 
-main(sys.argv[1:])
+main()
