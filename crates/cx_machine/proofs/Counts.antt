@@ -36,7 +36,7 @@ without_none (m ∷ ms) n h =
     let rest = without_none ms n p.1 in
     rw p.0 (ap (λ (xs : List ℕ). m ∷ xs) rest)
 
-length-inserted : (ms : List ℕ) (n : ℕ) → has ms n ≡ false → length (inserted ms n) ≡ length ms + 1
+pub length-inserted : (ms : List ℕ) (n : ℕ) → has ms n ≡ false → length (inserted ms n) ≡ length ms + 1
 length-inserted [] n h = refl
 length-inserted (m ∷ ms) n h =
     let p = or_parts (m == n) (has ms n) h in
@@ -44,7 +44,7 @@ length-inserted (m ∷ ms) n h =
     elim (nat_lt m n) as (λ b. length (cond b (m ∷ inserted ms n) (cond (m == n) (m ∷ ms) (n ∷ m ∷ ms))) ≡ suc (length ms) + 1) [ true ↦ omega (arith, rest) | false ↦ rw p.0 (omega arith) ]
 
 -- who runs a callback has a pair
-runs_times : (rs : List Running) (by id : ℕ) → runs rs by id ≡ true → 1 ≤ times id (ids rs)
+pub runs_times : (rs : List Running) (by id : ℕ) → runs rs by id ≡ true → 1 ≤ times id (ids rs)
 runs_times [] by id h = cc h
 runs_times (r ∷ rs) by id h = by_cases (cases_Bool (is_pair by id r)) (λ q. runs_times rs by id q)
   where
@@ -54,7 +54,7 @@ runs_times (r ∷ rs) by id h = by_cases (cases_Bool (is_pair by id r)) (λ q. r
         rw s (omega arith)
     by_cases (inr e) rest = let h' : runs rs by id ≡ true = rw e at h in let q = rest h' in omega (arith, q)
 
-none_ends : (rs : List Running) (by id : ℕ) → times id (ids rs) ≡ 0 → length (ended_by rs by id) ≡ length rs
+pub none_ends : (rs : List Running) (by id : ℕ) → times id (ids rs) ≡ 0 → length (ended_by rs by id) ≡ length rs
 none_ends [] by id h = refl
 none_ends (r ∷ rs) by id h = by_cases (cases_Bool (is_pair by id r)) (λ q. none_ends rs by id q)
   where
@@ -65,7 +65,7 @@ none_ends (r ∷ rs) by id h = by_cases (cases_Bool (is_pair by id r)) (λ q. no
         absurd (omega (arith, h'))
     by_cases (inr e) rest = let q = rest (omega (arith, h)) in rw e (omega (arith, q))
 
-one_ends : (rs : List Running) (by id : ℕ) → runs rs by id ≡ true → times id (ids rs) ≤ 1 → length (ended_by rs by id) + 1 ≡ length rs
+pub one_ends : (rs : List Running) (by id : ℕ) → runs rs by id ≡ true → times id (ids rs) ≤ 1 → length (ended_by rs by id) + 1 ≡ length rs
 one_ends [] by id h once = cc h
 one_ends (r ∷ rs) by id h once = by_cases (cases_Bool (is_pair by id r)) (λ q. one_ends rs by id q) (λ q. none_ends rs by id q)
   where
@@ -157,7 +157,7 @@ some_runs v by n h = let a = v.ok.0 in let b = far v.items h in omega (arith, a,
     far [] h = cc h
     far (r ∷ rs) h = omega arith
 
-length-more : (rs : List Running) (r : Running) → length (rs ++ r ∷ []) ≡ length rs + 1
+pub length-more : (rs : List Running) (r : Running) → length (rs ++ r ∷ []) ≡ length rs + 1
 length-more [] r = refl
 length-more (x ∷ xs) r = let rest = length-more xs r in omega (arith, rest)
 
@@ -209,14 +209,14 @@ room_to_run s by id room can h =
 abbrev IsIndex : List ℕ → List ℕ → Type 0
 IsIndex ix ms = (k : ℕ) → times k ix ≡ times k ms
 
-inserted_times : (ms : List ℕ) (n k : ℕ) → has ms n ≡ false → times k (inserted ms n) ≡ times k ms + bit (nat_eq n k)
+pub inserted_times : (ms : List ℕ) (n k : ℕ) → has ms n ≡ false → times k (inserted ms n) ≡ times k ms + bit (nat_eq n k)
 inserted_times [] n k h = omega arith
 inserted_times (m ∷ ms) n k h =
     let p = or_parts (m == n) (has ms n) h in
     let rest = inserted_times ms n k p.1 in
     elim (nat_lt m n) as (λ b. times k (cond b (m ∷ inserted ms n) (cond (m == n) (m ∷ ms) (n ∷ m ∷ ms))) ≡ bit (nat_eq m k) + times k ms + bit (nat_eq n k)) [ true ↦ omega (arith, rest) | false ↦ rw p.0 (omega arith) ]
 
-times_kept : (ms : List ℕ) (n k : ℕ) → nat_eq n k ≡ false → times k (without ms n) ≡ times k ms
+pub times_kept : (ms : List ℕ) (n k : ℕ) → nat_eq n k ≡ false → times k (without ms n) ≡ times k ms
 times_kept [] n k ne = refl
 times_kept (m ∷ ms) n k ne = by_cases (cases_Bool (m == n)) (times_kept ms n k ne)
   where

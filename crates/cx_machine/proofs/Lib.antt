@@ -1,3 +1,4 @@
 pub mod Counts
 pub mod Moving
+pub mod Owners
 pub mod Rising

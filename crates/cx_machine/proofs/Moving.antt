@@ -20,17 +20,17 @@ pub length-ids_of : {C : Type 0} (cs : List (Callback C)) → length (ids_of cs)
 length-ids_of [] = refl
 length-ids_of (c ∷ cs) = let rest = length-ids_of cs in omega (arith, rest)
 
-ids_of-push : {C : Type 0} (cs : List (Callback C)) (c : Callback C) → ids_of (cs ++ c ∷ []) ≡ ids_of cs ++ c.id ∷ []
+pub ids_of-push : {C : Type 0} (cs : List (Callback C)) (c : Callback C) → ids_of (cs ++ c ∷ []) ≡ ids_of cs ++ c.id ∷ []
 ids_of-push [] c = refl
 ids_of-push (x ∷ xs) c = ap (λ (ns : List ℕ). x.id ∷ ns) (ids_of-push xs c)
 
-ids_of-others : {C : Type 0} (cs : List (Callback C)) (id : ℕ) → ids_of (others cs id) ≡ without (ids_of cs) id
+pub ids_of-others : {C : Type 0} (cs : List (Callback C)) (id : ℕ) → ids_of (others cs id) ≡ without (ids_of cs) id
 ids_of-others [] id = refl
 ids_of-others {C} (c ∷ cs) id =
     let rest = ids_of-others cs id in
     elim (c.id == id) as (λ b. ids_of (cond (not b) (c ∷ others cs id) (others cs id)) ≡ cond (not b) (c.id ∷ without (ids_of cs) id) (without (ids_of cs) id)) [ true ↦ rest | false ↦ ap (λ (ns : List ℕ). c.id ∷ ns) rest ]
 
-others_none : {C : Type 0} (cs : List (Callback C)) (id : ℕ) → times id (ids_of cs) ≡ 0 → others cs id ≡ cs
+pub others_none : {C : Type 0} (cs : List (Callback C)) (id : ℕ) → times id (ids_of cs) ≡ 0 → others cs id ≡ cs
 others_none [] id h = refl
 others_none {C} (c ∷ cs) id h = by_cases (cases_Bool (c.id == id)) (λ q. others_none cs id q)
   where
@@ -38,7 +38,7 @@ others_none {C} (c ∷ cs) id h = by_cases (cases_Bool (c.id == id)) (λ q. othe
     by_cases (inl e) rest = let h' : 1 + times id (ids_of cs) ≡ 0 = rw e at h in absurd (omega (arith, h'))
     by_cases (inr e) rest = let q = rest (omega (arith, h)) in rw e (ap (λ (xs : List (Callback C)). c ∷ xs) q)
 
-stands : {C : Type 0} (cs : List (Callback C)) (i id : ℕ) (d : Callback C) → i < length cs → (get_or cs i d).id ≡ id → 1 ≤ times id (ids_of cs)
+pub stands : {C : Type 0} (cs : List (Callback C)) (i id : ℕ) (d : Callback C) → i < length cs → (get_or cs i d).id ≡ id → 1 ≤ times id (ids_of cs)
 stands [] i id d lt e = absurd (omega (arith, lt))
 stands (c ∷ cs) zero id d lt e = let q : (c.id == id) ≡ true = eq-eqb c.id id e in rw q (omega arith)
 stands (c ∷ cs) (suc i) id d lt e = let rest = stands cs i id d (omega (arith, lt)) e in omega (arith, rest)
@@ -60,7 +60,7 @@ taken_at {C} (c ∷ cs) (suc i) id d lt e once = by_cases (cases_Bool (c.id == i
         let r = rest o in
         (rw q (ap (λ (xs : List (Callback C)). c ∷ xs) r.0), rw q r.1)
 
-stops : {C : Type 0} (cs : List (Callback C)) (id : ℕ) → has (ids_of cs) id ≡ true → position_or_len (λ (c : Callback C). c.id == id) cs < length cs
+pub stops : {C : Type 0} (cs : List (Callback C)) (id : ℕ) → has (ids_of cs) id ≡ true → position_or_len (λ (c : Callback C). c.id == id) cs < length cs
 stops [] id h = cc h
 stops {C} (c ∷ cs) id h = by_cases (cases_Bool (c.id == id)) (λ q. stops cs id q)
   where
@@ -96,16 +96,16 @@ applied_ok next (Err e) old new is ok a = cc ok
 abbrev Same : {C : Type 0} → List (Callback C) → Stop → Type 0
 Same cs s = ids_of cs ≡ s.registered
 
-unmoved : {C : Type 0} (s t : Stop) (old new : List (Callback C)) → Same old s → new ≡ old → t.registered ≡ s.registered → Same new t
+pub unmoved : {C : Type 0} (s t : Stop) (old new : List (Callback C)) → Same old s → new ≡ old → t.registered ≡ s.registered → Same new t
 unmoved {C} s t old new same is reg = ap (λ (cs : List (Callback C)). ids_of cs) is ∙ (same ∙ sym reg)
 
-put_same : {C : Type 0} (s : Stop) (id : ℕ) (old new : List (Callback C)) (hand rest : Option C) → Same old s → IsSome hand → PutsIn old id hand new rest → Same new (registered_too s id)
+pub put_same : {C : Type 0} (s : Stop) (id : ℕ) (old new : List (Callback C)) (hand rest : Option C) → Same old s → IsSome hand → PutsIn old id hand new rest → Same new (registered_too s id)
 put_same s id old new None rest same is p = cc is
 put_same {C} s id old new (Some v) rest same is p =
     let c : Callback C = record { id = id; value = v } in
     ap (λ (cs : List (Callback C)). ids_of cs) (p.list v refl) ∙ (ids_of-push old c ∙ ap (λ (ns : List ℕ). ns ++ id ∷ []) same)
 
-out_same : {C : Type 0} (s : Stop) (id : ℕ) (old new : List (Callback C)) (out : Option C) → Same old s → TakesOut old id new out → ids_of new ≡ without s.registered id
+pub out_same : {C : Type 0} (s : Stop) (id : ℕ) (old new : List (Callback C)) (out : Option C) → Same old s → TakesOut old id new out → ids_of new ≡ without s.registered id
 out_same {C} s id old new out same t =
     ap (λ (cs : List (Callback C)). ids_of cs) t.list ∙ (ids_of-others old id ∙ ap (λ (ns : List ℕ). without ns id) same)
 
@@ -123,7 +123,7 @@ same_after s t by ops.Deregister (Some id) (pos zero) replies.Inside old new han
 same_after s t by _ _ _ _ old new hand rest same ready m e = cc e
 
 -- a change that the state enables finds what its move needs
-there : {C : Type 0} (s : Stop) (old : List (Callback C)) (id : ℕ) → Same old s → IsOnceEach (members s) → has s.registered id ≡ true → IsThere old id
+pub there : {C : Type 0} (s : Stop) (old : List (Callback C)) (id : ℕ) → Same old s → IsOnceEach (members s) → has s.registered id ≡ true → IsThere old id
 there s old id same once h =
     let a = (apart s.registered s.running s.ended s.gone id once).sum in
     let one : times id s.registered ≤ 1 = omega (arith, a) in

@@ -13,12 +13,12 @@ use Rattle.cx_machine.specs.Words.{IsRising, IsFoundAt, IsMissingAt, has, withou
 abbrev Above : ℕ → List ℕ → Type 0
 Above m ms = AllByRecursion (λ n. m < n) ms
 
-above_at : (m : ℕ) (ms : List ℕ) (k : ℕ) → Above m ms → k < length ms → m < get_or ms k 0
+pub above_at : (m : ℕ) (ms : List ℕ) (k : ℕ) → Above m ms → k < length ms → m < get_or ms k 0
 above_at m [] k h lt = absurd (omega (arith, lt))
 above_at m (n ∷ ns) zero h lt = h.0
 above_at m (n ∷ ns) (suc k) h lt = above_at m ns k h.1 (omega (arith, lt))
 
-rising_at : (ms : List ℕ) → IsRising ms → (i j : ℕ) → i ≤ j → j < length ms → get_or ms i 0 ≤ get_or ms j 0
+pub rising_at : (ms : List ℕ) → IsRising ms → (i j : ℕ) → i ≤ j → j < length ms → get_or ms i 0 ≤ get_or ms j 0
 rising_at [] h i j le lt = absurd (omega (arith, lt))
 rising_at (m ∷ ms) h zero zero le lt = omega arith
 rising_at (m ∷ ms) h zero (suc j) le lt = let a : m < get_or ms j 0 = above_at m ms j h.0 (omega (arith, lt)) in omega (arith, a)
@@ -26,14 +26,14 @@ rising_at (m ∷ ms) h (suc i) zero le lt = absurd (omega (arith, le))
 rising_at (m ∷ ms) h (suc i) (suc j) le lt = rising_at ms h.1 i j (omega (arith, le)) (omega (arith, lt))
 
 -- what stands below all isn't among them
-above_lacks : (n : ℕ) (ms : List ℕ) → Above n ms → (has ms n ≡ false) × (without ms n ≡ ms)
+pub above_lacks : (n : ℕ) (ms : List ℕ) → Above n ms → (has ms n ≡ false) × (without ms n ≡ ms)
 above_lacks n [] h = (refl, refl)
 above_lacks n (m ∷ ms) h =
     let ne : (m == n) ≡ false = ne_eqb m n (λ e. omega (arith, e, h.0)) in
     let rest = above_lacks n ms h.1 in
     (rw ne rest.0, rw ne (ap (λ (r : List ℕ). m ∷ r) rest.1))
 
-found : (ms : List ℕ) (n i : ℕ) → IsRising ms → i < length ms → get_or ms i 0 ≡ n → (has ms n ≡ true) × (remove ms i ≡ without ms n) × (inserted ms n ≡ ms)
+pub found : (ms : List ℕ) (n i : ℕ) → IsRising ms → i < length ms → get_or ms i 0 ≡ n → (has ms n ≡ true) × (remove ms i ≡ without ms n) × (inserted ms n ≡ ms)
 found [] n i h lt e = absurd (omega (arith, lt))
 found (m ∷ ms) n zero h lt e =
     let eq : (m == n) ≡ true = eq-eqb m n e in
@@ -49,7 +49,7 @@ found (m ∷ ms) n (suc i) h lt e =
     let rest = found ms n i h.1 (omega (arith, lt)) e in
     (rw ne rest.0, rw ne (ap (λ (r : List ℕ). m ∷ r) rest.1), rw yl (ap (λ (r : List ℕ). m ∷ r) rest.2))
 
-missing : (ms : List ℕ) (n i : ℕ) → i ≤ length ms → ((k : ℕ) → k < i → get_or ms k 0 < n) → ((k : ℕ) → i ≤ k → k < length ms → n < get_or ms k 0) → (has ms n ≡ false) × (insert ms i n ≡ inserted ms n) × (without ms n ≡ ms)
+pub missing : (ms : List ℕ) (n i : ℕ) → i ≤ length ms → ((k : ℕ) → k < i → get_or ms k 0 < n) → ((k : ℕ) → i ≤ k → k < length ms → n < get_or ms k 0) → (has ms n ≡ false) × (insert ms i n ≡ inserted ms n) × (without ms n ≡ ms)
 missing [] n zero le below above = (refl, refl, refl)
 missing [] n (suc i) le below above = absurd (omega (arith, le))
 missing (m ∷ ms) n zero le below above =
@@ -76,7 +76,7 @@ told ms n (Err i) up s =
     let f = missing ms n i at_.0 at_.1 at_.2 in
     record { lacks_it = f.0; within = at_.0; put_in = f.1; out_already = f.2 }
 
-above-without : (m n : ℕ) (ms : List ℕ) → Above m ms → Above m (without ms n)
+pub above-without : (m n : ℕ) (ms : List ℕ) → Above m ms → Above m (without ms n)
 above-without m n [] h = tt
 above-without m n (x ∷ xs) h =
     elim (x == n) as (λ b. Above m (cond (not b) (x ∷ without xs n) (without xs n))) [ true ↦ above-without m n xs h.1 | false ↦ (h.0, above-without m n xs h.1) ]
@@ -86,11 +86,11 @@ rising-without n [] h = tt
 rising-without n (x ∷ xs) h =
     elim (x == n) as (λ b. IsRising (cond (not b) (x ∷ without xs n) (without xs n))) [ true ↦ rising-without n xs h.1 | false ↦ (above-without x n xs h.0, rising-without n xs h.1) ]
 
-above-more : (m n : ℕ) (ms : List ℕ) → m < n → Above n ms → Above m ms
+pub above-more : (m n : ℕ) (ms : List ℕ) → m < n → Above n ms → Above m ms
 above-more m n [] lt h = tt
 above-more m n (x ∷ xs) lt h = (omega (arith, lt, h.0), above-more m n xs lt h.1)
 
-above-inserted : (m n : ℕ) (ms : List ℕ) → m < n → Above m ms → Above m (inserted ms n)
+pub above-inserted : (m n : ℕ) (ms : List ℕ) → m < n → Above m ms → Above m (inserted ms n)
 above-inserted m n [] lt h = (lt, tt)
 above-inserted m n (x ∷ xs) lt h =
     elim (nat_lt x n) as (λ b. Above m (cond b (x ∷ inserted xs n) (cond (x == n) (x ∷ xs) (n ∷ x ∷ xs)))) [

@@ -63,7 +63,7 @@ length-without (m ∷ ms) n =
     elim (m == n) as (λ b. length (cond (not b) (m ∷ without ms n) (without ms n)) + (bit b + times n ms) ≡ suc (length ms)) [ true ↦ omega (arith, rest) | false ↦ omega (arith, rest) ]
 
 -- what is below seats + 1, without seats, is below seats
-lower : (seats : ℕ) (ms : List ℕ) → Below (suc seats) ms → Below seats (without ms seats)
+pub lower : (seats : ℕ) (ms : List ℕ) → Below (suc seats) ms → Below seats (without ms seats)
 lower seats [] h = tt
 lower seats (m ∷ ms) h = by_cases (cases_Bool (m == seats)) (lower seats ms h.1)
   where

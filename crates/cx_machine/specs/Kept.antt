@@ -4,7 +4,7 @@ use Rattle.cx_machine.specs.declared.kind.Entry.{Entry}
 use Rattle.cx_machine.specs.Words.{when}
 use Rattle.cx_machine.specs.Meaning.{run, AreBelow}
 
-none_after : {M : Type 0} (step : M → Entry → Option M) (es : List Entry) (m : M) → run step None es ≡ Some m → ⊥
+pub none_after : {M : Type 0} (step : M → Entry → Option M) (es : List Entry) (m : M) → run step None es ≡ Some m → ⊥
 none_after step [] m e = cc e
 none_after step (x ∷ xs) m e = none_after step xs m e
 

@@ -19,3 +19,4 @@ pub mod Readers
 pub mod Waiters
 pub mod Callbacks
 pub mod Values
+pub mod Registries

@@ -24,6 +24,10 @@ opening recursive numbers = record { recursive = recursive; owner = None; level 
 abbrev pub owns : Mutex → ℕ → Bool
 owns m by = is_thread m.owner by
 
+-- at how many levels this thread owns it
+abbrev pub levels_of : Mutex → ℕ → ℕ
+levels_of m by = if owns m by then m.level else 0
+
 abbrev pub can_lock : Mutex → ℕ → Bool
 can_lock m by = is_none m.owner || (m.recursive && owns m by && nat_lt m.level 1000)
 

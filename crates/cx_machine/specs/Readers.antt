@@ -21,10 +21,10 @@ pub record Good (seats : ℕ) (s : Shared) : Type 0 where
 pub lacking : (s : Shared) (by : ℕ) → can_read s by ≡ true → has s.readers by ≡ false
 lacking s by c = not-true _ (and_parts (is_none s.writer) (not (has s.readers by)) c).1
 
-read_too : (seats : ℕ) (s : Shared) (by : ℕ) → Good seats s → by < seats → can_read s by ≡ true → Good seats (read_by s by)
+pub read_too : (seats : ℕ) (s : Shared) (by : ℕ) → Good seats s → by < seats → can_read s by ≡ true → Good seats (read_by s by)
 read_too seats s by g lt c = record { once = once_push s.readers by g.once (lacking s by c); below = below_push seats s.readers by g.below lt }
 
-stepped : (seats : ℕ) (s s' : Shared) (by : ℕ) (op : Op) (a : Option ℕ) (b : ℤ) (r : Reply) → Good seats s → by < seats → step s by op a b r ≡ Some s' → Good seats s'
+pub stepped : (seats : ℕ) (s s' : Shared) (by : ℕ) (op : Op) (a : Option ℕ) (b : ℤ) (r : Reply) → Good seats s → by < seats → step s by op a b r ≡ Some s' → Good seats s'
 stepped seats s s' by ops.Lock (Some zero) (pos zero) replies.Ok g lt e = made (Good seats) (is_free s) (locked s by) s' (λ _. record { once = g.once; below = g.below }) e
 stepped seats s s' by ops.TryLock (Some zero) (pos zero) replies.True g lt e = made (Good seats) (is_free s) (locked s by) s' (λ _. record { once = g.once; below = g.below }) e
 stepped seats s s' by ops.Unlock (Some zero) (pos zero) replies.Ok g lt e = made (Good seats) (is_thread s.writer by) (unlocked s) s' (λ _. record { once = g.once; below = g.below }) e
@@ -43,11 +43,11 @@ shared_most_holds s s' seats es none below e =
 abbrev pub Joins : Shared → ℕ → Option Shared → Type 0
 Joins s by next = (can_read s by ≡ true) × (next ≡ Some (read_by s by))
 
-joins_lock : (s : Shared) (by : ℕ) (a : Option ℕ) (b : ℤ) (r : Reply) → IsSome (step s by ops.LockShared a b r) → Joins s by (step s by ops.LockShared a b r)
+pub joins_lock : (s : Shared) (by : ℕ) (a : Option ℕ) (b : ℤ) (r : Reply) → IsSome (step s by ops.LockShared a b r) → Joins s by (step s by ops.LockShared a b r)
 joins_lock s by (Some zero) (pos zero) replies.Ok is = when_some (can_read s by) (read_by s by) is
 joins_lock s by _ _ _ is = cc is
 
-joins_try : (s : Shared) (by : ℕ) (a : Option ℕ) (b : ℤ) (r : Reply) → IsSome (step s by ops.TryLockShared a b r) → Joins s by (step s by ops.TryLockShared a b r)
+pub joins_try : (s : Shared) (by : ℕ) (a : Option ℕ) (b : ℤ) (r : Reply) → IsSome (step s by ops.TryLockShared a b r) → Joins s by (step s by ops.TryLockShared a b r)
 joins_try s by (Some zero) (pos zero) replies.True is = when_some (can_read s by) (read_by s by) is
 joins_try s by _ _ _ is = cc is
 

@@ -137,7 +137,7 @@ pub record Good (seats : ℕ) (c : Condition) : Type 0 where
   pub waits : Below seats c.waiting
   pub told : Below seats c.notified
 
-stepped : (seats : ℕ) (c c' : Condition) (by : ℕ) (op : Op) (a : Option ℕ) (b : ℤ) (r : Reply) → Good seats c → by < seats → step c by op a b r ≡ Some c' → Good seats c'
+pub stepped : (seats : ℕ) (c c' : Condition) (by : ℕ) (op : Op) (a : Option ℕ) (b : ℤ) (r : Reply) → Good seats c → by < seats → step c by op a b r ≡ Some c' → Good seats c'
 stepped seats c c' by ops.Enter (Some zero) (pos zero) replies.Ok g lt e = made (Good seats) (is_away c by) (entered c by) c' (λ away. record { once = once_entered c.waiting c.notified by g.once away; waits = below_push seats c.waiting by g.waits lt; told = g.told }) e
 stepped seats c c' by ops.NotifyOne (Some zero) (pos zero) (replies.Thread t) g lt e = made (Good seats) (has c.waiting t.0) (moved c t.0) c' (λ h. record { once = once_moved c.waiting c.notified t.0 g.once h; waits = below_without seats c.waiting t.0 g.waits; told = below_push seats c.notified t.0 g.told (below_one seats c.waiting t.0 g.waits h) }) e
 stepped seats c c' by ops.NotifyOne (Some zero) (pos zero) replies.Nobody g lt e = made (Good seats) (length c.waiting == 0) c c' (λ _. g) e
@@ -147,7 +147,7 @@ stepped seats c c' by ops.Withdraw (Some zero) (pos zero) replies.Ok g lt e = ma
 stepped seats c c' by _ _ _ _ g lt e = cc e
 
 -- who has no member has nobody in either set
-no_members : (seats : ℕ) (ms ns : List ℕ) → ms ++ ns ≡ [] → IsOnceEach (ms ++ ns) × (Below seats ms × Below seats ns)
+pub no_members : (seats : ℕ) (ms ns : List ℕ) → ms ++ ns ≡ [] → IsOnceEach (ms ++ ns) × (Below seats ms × Below seats ns)
 no_members seats [] [] none = ((λ k. omega arith), (tt, tt))
 no_members seats [] (n ∷ ns) none = cc none
 no_members seats (m ∷ ms) ns none = cc none

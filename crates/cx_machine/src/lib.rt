@@ -17,8 +17,6 @@ mod sets;
 mod shared;
 mod state;
 mod stop;
-#[cfg(test)]
-mod tests;
 
 pub use barrier::{BarrierMachine, BarrierState};
 pub use condition::{ConditionMachine, ConditionState};
