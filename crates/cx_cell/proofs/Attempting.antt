@@ -17,13 +17,14 @@ use Rattle.cx_turn.specs.Views.{IsNow, with_change, with_look, outside}
 use Rattle.cx_turn.specs.Passes.{IsPassAt, IsPassWith, IsLeft, IsLeftWith, Enters, IsHeld, IsMade, CanPay}
 use Rattle.cx_turn.specs.Lending.{with_hand, with_state}
 use Rattle.cx_turn.proofs.Calls.{left_of}
-use Rattle.cx_turn.proofs.Histories.{prefix_trans, prefix_refl, some_is}
+use Rattle.cx_turn.proofs.Histories.{prefix_trans, some_is}
 use Rattle.cx_cell.specs.declared.queued.Queued.{Queued}
 use Rattle.cx_cell.specs.declared.wish.Wish.{Wish}
-use Rattle.cx_cell.specs.declared.wish.Either.{Either}
-use Rattle.cx_cell.specs.declared.wish.Either.TheVariants as eithers
+use Rattle.cx_turn.specs.declared.either.Either.{Either}
+use Rattle.cx_turn.specs.declared.either.Either.TheVariants as eithers
 use Rattle.cx_cell.specs.Queue.{inner}
-use Rattle.cx_cell.specs.Acts.{seen, Sees, Makes, Looks, Finds, Denies, Pays, Does, DoesEither}
+use Rattle.cx_turn.specs.Acts.{seen, Sees, Makes, Looks, Finds, DoesEither}
+use Rattle.cx_cell.specs.Acts.{Denies, Pays, Does}
 
 module _ {M S H : Type 0} (meaning : S → M) (K : Ghosts M) where
   -- a write beside the state leaves what the taker holds
@@ -136,18 +137,7 @@ module _ {M S H : Type 0} (meaning : S → M) (K : Ghosts M) where
     pub pays_on : (e : Entry) (now after : M) → CanPay K v e now after → CanPay K h.place.me.0 e now after
     pays_on e now after can = subst (λ (x : View M). CanPay K x e now after) (sym (enters v is).0) record { paid = can.paid; shared = can.shared; has = can.has }
 
-module _ {M : Type 0} where
-  pub sees_self : (v : View M) → Sees v v
-  sees_self v = record { later = prefix_refl v.front; same = refl }
-
 module _ {M : Type 0} (K : Ghosts M) where
-  -- who saw more, and then nothing, has seen more
-  pub finds_on : (P : M → Type 0) (v u w : View M) → Sees v u → Finds K P u w → Sees v w
-  finds_on P v u w s f = record {
-    later = prefix_trans v.front u.front w.front s.later f.later;
-    same = f.view ∙ ap (λ (x : View M). seen x w.front) s.same;
-  }
-
   -- what was done by who had seen more
   pub does_on : (by : ThreadNo) (wish : Wish) (v u w : View M) (d : Either) → Sees v u → Does K by wish u w d → Does K by wish v w d
   does_on by wish v u w d s is = at u.front s.later (subst (λ (x : View M). Does K by wish x w d) s.same is)
@@ -162,9 +152,6 @@ module _ {M : Type 0} (K : Ghosts M) where
   -- who had seen more can pay as much
   pub pays_seen : (by : ThreadNo) (op : Op) (a b : ℤ) (v u : View M) → Sees v u → Pays K by op a b v → Pays K by op a b u
   pays_seen by op a b v u s pays = subst (λ (x : View M). Pays K by op a b x) (sym s.same) (λ now after r enabled. let can = pays now after r enabled in record { paid = can.paid; shared = can.shared; has = can.has })
-
-  pub finds_map : (P Q : M → Type 0) (v w : View M) → ((m : M) → P m → Q m) → Finds K P v w → Finds K Q v w
-  finds_map P Q v w f is = record { now = is.now; later = is.later; leads = is.leads; holds = f is.now is.holds; view = is.view }
 
   module _ (by : ThreadNo) (wish : Wish) (op : Op) (a b : ℤ) (ea : wish.a ≡ a) (eb : wish.b ≡ b) where
     pub pays_wish : (Q : View M → Type 0) → wish.change ≡ Some op → ((v : View M) → Q v → Pays K by op a b v) → IfSome wish.change (λ o. (v : View M) → Q v → Pays K by o wish.a wish.b v)

@@ -1,3 +1,4 @@
 pub mod Room
 pub mod Attempting
-pub mod Entries
+pub mod Bits
+pub mod Queues

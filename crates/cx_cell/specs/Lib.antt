@@ -1,3 +1,4 @@
 pub mod Acts
+pub mod Callers
 pub mod Queue
 pub mod Cells

@@ -1,19 +1,20 @@
 //! One attempt under the turn.
-ghost use Rattle.std.specs.Prelude.{◌≡◌, ◌<◌, ◌≤◌, ℕ, Some, None, IfSome};
+ghost use Rattle.std.specs.Prelude.{◌≡◌, ◌<◌, ◌≤◌, ◌&&◌, ◌||◌, ◌==◌, ℕ, Some, None, IfSome};
 ghost use Rattle.cx_machine.specs.declared.kind.Entry.{Entry};
 ghost use Rattle.cx_machine.specs.Meaning.{change};
 ghost use Rattle.cx_turn.specs.declared.view.View.{View};
 ghost use Rattle.cx_cell.specs.Acts.{Attempts, Does, Pays};
-ghost use Rattle.cx_cell.specs.Cells.{IsCellPass, IsCellPassWith};
+ghost use Rattle.cx_cell.specs.Callers.{is_called};
+ghost use Rattle.cx_cell.specs.Cells.{IsCellPass, IsCellPassWith, cell_seats};
 
 use crate::called::Called;
 use crate::cell::Cell;
 use crate::offer::{Offer, offered};
 use crate::queued::{put_off, settle};
-use crate::wish::{Either, Wish};
+use crate::wish::Wish;
 use cx_machine::{Entry, Machine, Meaning, Op};
 use cx_names::{Reply, ThreadNo};
-use cx_turn::Pass;
+use cx_turn::{Either, Pass};
 use std::hint;
 use std::sync::Wait;
 
@@ -72,26 +73,41 @@ impl<M: Meaning, S: Machine<M>> Cell<M, S> {
                 (Some(Either::Seen(reply, at)), false)
             }
             Offer::Nothing => {
-                let queued = put_off::<M, S>(held.state_mut(), by, wish, waits, called);
+                let queued = put_off::<M, S>(held.state_mut(), by, wish, waits);
                 held.leave();
                 (None, queued)
             }
         }
     }
 
-    // Wakes those who are to be woken.
-    fn rouse(&self, pass: &mut Pass<M>, called: &Called)
-        requires { IsCellPass S.meaning M.Meaning self.now pass.old }
-        ensures { (v : View M) → IsCellPassWith S.meaning M.Meaning self.now pass.old v → IsCellPassWith S.meaning M.Meaning self.now pass.new v }
+    // Wakes the caller of this number, if it is to be woken, and notes that it was.
+    fn wake_one(&self, pass: &mut Pass<M>, seat: u32, called: &Called, woken: &mut Called)
+        requires pass { IsCellPass S.meaning M.Meaning self.now pass.old }
+        requires seat { seat < cell_seats S.meaning self.now }
+        ensures pass { (v : View M) → IsCellPassWith S.meaning M.Meaning self.now pass.old v → IsCellPassWith S.meaning M.Meaning self.now pass.new v }
+        ensures woken { (n : ℕ) → n < 256 → is_called woken.new n ≡ (is_called woken.old n || (is_called called.now n && (seat == n))) }
     {
-        if called.is_empty() {
+        if !called.has(seat) {
             return;
         }
-        for seat in 0..self.turn.seats() {
-            if called.has(seat) {
-                self.turn.wake(pass, ThreadNo(seat));
-            }
+        self.turn.wake(pass, ThreadNo(seat));
+        woken.add(ThreadNo(seat));
+    }
+
+    // Wakes those who are to be woken, and gives whom it woke.
+    fn rouse(&self, pass: &mut Pass<M>, called: &Called) -> Called
+        requires { IsCellPass S.meaning M.Meaning self.now pass.old }
+        ensures pass { (v : View M) → IsCellPassWith S.meaning M.Meaning self.now pass.old v → IsCellPassWith S.meaning M.Meaning self.now pass.new v }
+        ensures woken { (n : ℕ) → n < cell_seats S.meaning self.now → is_called result n ≡ is_called called.now n }
+    {
+        let mut woken = Called::nobody();
+        if called.is_empty() {
+            return woken;
         }
+        for seat in 0..self.turn.seats() {
+            self.wake_one(pass, seat, called, &mut woken);
+        }
+        woken
     }
 
     // An attempt, after which those are woken whose wishes the state allows now.
@@ -109,7 +125,7 @@ impl<M: Meaning, S: Machine<M>> Cell<M, S> {
     {
         let mut called = Called::nobody();
         let outcome = self.attempt(rt, pass, wish, waits, &mut called);
-        self.rouse(pass, &called);
+        let _ = self.rouse(pass, &called);
         outcome
     }
 

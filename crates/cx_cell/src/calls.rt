@@ -3,16 +3,17 @@ ghost use Rattle.std.specs.Prelude.{◌≡◌, ◌<◌, ◌≤◌, ℕ, pos, Som
 ghost use Rattle.cx_machine.specs.declared.kind.Entry.{Entry};
 ghost use Rattle.cx_machine.specs.Meaning.{change, look_of, IsShut, ShowsNone};
 ghost use Rattle.cx_turn.specs.declared.view.View.{View};
-ghost use Rattle.cx_cell.specs.Acts.{Makes, Looks, Finds, Pays, DoesEither};
+ghost use Rattle.cx_turn.specs.Acts.{Makes, Looks, Finds, DoesEither};
+ghost use Rattle.cx_cell.specs.Acts.{Pays};
 ghost use Rattle.cx_cell.specs.Cells.{IsCellPass, IsCellPassWith};
 ghost use Rattle.cx_cell.specs.Queue.{IsMarked};
 
 use crate::cell::Cell;
 use crate::queued::waiter_of;
-use crate::wish::{Either, Waiter, Wish};
+use crate::wish::{Waiter, Wish};
 use cx_machine::{Machine, Meaning, Op};
 use cx_names::{Reply, ThreadNo};
-use cx_turn::Pass;
+use cx_turn::{Either, Pass};
 use std::sync::Wait;
 
 impl<M: Meaning, S: Machine<M>> Cell<M, S> {

@@ -2,7 +2,6 @@
 //!
 //! - `Cell`: the state with its queue. A call on it makes a change or a look as soon as, or if, the
 //!   state allows it.
-//! - `Either`: what a call did that could do two things.
 //! - `Queued`: a state with its queue, which is a machine with the same meaning; `Kept` is what it
 //!   points at.
 //! - `Wish`, `Waiter`: what a caller waits for, and a caller in the queue.
@@ -14,10 +13,8 @@ mod calls;
 mod cell;
 mod offer;
 mod queued;
-#[cfg(test)]
-mod tests;
 mod wish;
 
 pub use cell::Cell;
 pub use queued::{Kept, Queued};
-pub use wish::{Either, Waiter, Wish};
+pub use wish::{Waiter, Wish};

@@ -1,7 +1,7 @@
 //! A state with the queue of those who wait for it.
-ghost use Rattle.std.specs.Prelude.{◌≡◌, ◌<◌, ◌≤◌, ◌+◌, ℕ, length, slice_get, Some, None, IfSome, true, false, vec_len, IsTrue, Contains};
+ghost use Rattle.std.specs.Prelude.{◌≡◌, ◌⊎◌, ◌<◌, ◌≤◌, ◌+◌, ℕ, length, slice_get, Some, None, IfSome, true, false};
 ghost use Rattle.cx_cell.specs.Acts.{Denies};
-ghost use Rattle.cx_cell.specs.Queue.{IsMarked, AreMarked, StandsIn};
+ghost use Rattle.cx_cell.specs.Queue.{AreMarked, StandsIn, KeepsOthers, Calls, IsDue, HasDue, Marks, MarksAll, without};
 ghost use Rattle.cx_cell.specs.declared.wish.Waiter.{Waiter};
 
 use crate::called::Called;
@@ -86,9 +86,8 @@ impl<M: Meaning, S: Machine<M>> Machine<M> for Queued<S> {
 // woken. Out of line, since the queue is empty at most calls.
 #[inline(never)]
 fn mark_one<M: Meaning, S: Machine<M>>(state: &S, waiter: &mut Waiter, called: &mut Called)
-    ensures marked { IsMarked M.Meaning (S.meaning state.now) waiter.new }
-    ensures same { (waiter.new.seat ≡ waiter.old.seat) × (waiter.new.wish ≡ waiter.old.wish) }
-    ensures alone { waiter.old.woken ≡ false → waiter.new.woken ≡ true → Denies M.Meaning waiter.old.seat waiter.old.wish (S.meaning state.now) → ⊥ }
+    ensures marks { Marks M.Meaning (S.meaning state.now) waiter.old waiter.new }
+    ensures called { Calls (IsDue M.Meaning (S.meaning state.now) waiter.old) called.old called.new }
 {
     if waiter.woken {
         return;
@@ -104,7 +103,9 @@ fn mark_one<M: Meaning, S: Machine<M>>(state: &S, waiter: &mut Waiter, called: &
 
 // Marks each waiter whose wish the state allows.
 fn mark<M: Meaning, S: Machine<M>>(state: &S, queue: &mut [Waiter], called: &mut Called)
-    ensures { AreMarked M.Meaning (S.meaning state.now) queue.new }
+    ensures marked { AreMarked M.Meaning (S.meaning state.now) queue.new }
+    ensures marks { MarksAll M.Meaning (S.meaning state.now) queue.old queue.new }
+    ensures called { Calls (HasDue M.Meaning (S.meaning state.now) queue.old) called.old called.new }
 {
     for i in 0..queue.len() {
         mark_one::<M, S>(state, &mut queue[i], called);
@@ -113,7 +114,7 @@ fn mark<M: Meaning, S: Machine<M>>(state: &S, queue: &mut [Waiter], called: &mut
 
 // Where the caller of this number stands in the queue.
 fn place_of(queue: &[Waiter], seat: ThreadNo) -> Option<usize>
-    ensures { IfSome result (λ i. i < length queue.now) }
+    ensures { IfSome result (λ i. (w : Waiter) × (slice_get queue.now i ≡ Some w) × (w.seat ≡ seat)) }
 {
     for i in 0..queue.len() {
         if queue[i].seat == seat {
@@ -127,12 +128,15 @@ fn place_of(queue: &[Waiter], seat: ThreadNo) -> Option<usize>
 pub(crate) fn waiter_of(queue: &[Waiter], seat: ThreadNo) -> Option<Waiter>
     ensures { IfSome result (λ w. (w.seat ≡ seat) × StandsIn queue.now w) }
 {
-    for i in 0..queue.len() {
-        if queue[i].seat == seat {
-            return Some(queue[i]);
-        }
-    }
-    None
+    let i = place_of(queue, seat)?;
+    Some(queue[i])
+}
+
+// Takes the caller of this number out of the queue.
+fn withdraw(queue: &mut Vec<Waiter>, seat: ThreadNo)
+    ensures { queue.new.items ≡ without queue.old.items seat }
+{
+    queue.retain(|w| w.seat.0 != seat.0);
 }
 
 // The caller of this number waits no more, and all others whose wish the state allows are marked.
@@ -143,17 +147,20 @@ pub(crate) fn settle<M: Meaning, S: Machine<M>>(
 )
     ensures state { queued.new.kept.value.state ≡ queued.old.kept.value.state }
     ensures marked { AreMarked M.Meaning (S.meaning queued.new.kept.value.state) queued.new.kept.value.queue.items }
+    ensures marks { MarksAll M.Meaning (S.meaning queued.new.kept.value.state) (without queued.old.kept.value.queue.items seat) queued.new.kept.value.queue.items }
+    ensures called { Calls (HasDue M.Meaning (S.meaning queued.new.kept.value.state) (without queued.old.kept.value.queue.items seat)) called.old called.new }
 {
     let kept = &mut *queued.kept;
-    if let Some(i) = place_of(&kept.queue, seat) {
-        kept.queue.remove(i);
-    }
+    withdraw(&mut kept.queue, seat);
     mark::<M, S>(&kept.state, &mut kept.queue, called);
 }
 
 // Puts the caller into the queue, where it isn't marked. False where there is no memory for it.
 fn enter(queue: &mut Vec<Waiter>, seat: ThreadNo, wish: &Wish) -> bool
-    ensures { result ≡ true → Contains queue.new.items (record { seat = seat; wish = wish.now; woken = false }) }
+    ensures queued { result ≡ true → StandsIn queue.new.items (record { seat = seat; wish = wish.now; woken = false }) }
+    ensures others { KeepsOthers seat queue.old.items queue.new.items }
+    ensures no_more { (w : Waiter) → StandsIn queue.new.items w → StandsIn queue.old.items w ⊎ (w ≡ record { seat = seat; wish = wish.now; woken = false }) }
+    ensures refused { result ≡ false → queue.new.items ≡ queue.old.items }
 {
     let waiter = Waiter {
         seat,
@@ -169,20 +176,22 @@ fn enter(queue: &mut Vec<Waiter>, seat: ThreadNo, wish: &Wish) -> bool
     }
 }
 
-// The caller finds that the state denies its wish, and waits in the queue if it is to. Says whether it
-// does.
+// The caller, whose wish the state denies, waits in the queue if it is to. Says whether it does.
 pub(crate) fn put_off<M: Meaning, S: Machine<M>>(
     queued: &mut Queued<S>,
     seat: ThreadNo,
     wish: &Wish,
     waits: bool,
-    called: &mut Called,
 ) -> bool
+    requires marked { AreMarked M.Meaning (S.meaning queued.old.kept.value.state) queued.old.kept.value.queue.items }
+    requires denied { Denies M.Meaning seat wish.now (S.meaning queued.old.kept.value.state) }
     ensures state { queued.new.kept.value.state ≡ queued.old.kept.value.state }
     ensures marked { AreMarked M.Meaning (S.meaning queued.new.kept.value.state) queued.new.kept.value.queue.items }
+    ensures queued { result ≡ true → StandsIn queued.new.kept.value.queue.items (record { seat = seat; wish = wish.now; woken = false }) }
+    ensures others { KeepsOthers seat queued.old.kept.value.queue.items queued.new.kept.value.queue.items }
+    ensures no_more { (w : Waiter) → StandsIn queued.new.kept.value.queue.items w → StandsIn queued.old.kept.value.queue.items w ⊎ (w ≡ record { seat = seat; wish = wish.now; woken = false }) }
+    ensures refused { result ≡ false → queued.new.kept.value.queue.items ≡ queued.old.kept.value.queue.items }
 {
     let kept = &mut *queued.kept;
-    let queued_up = waits && enter(&mut kept.queue, seat, wish);
-    mark::<M, S>(&kept.state, &mut kept.queue, called);
-    queued_up
+    waits && enter(&mut kept.queue, seat, wish)
 }

@@ -2,7 +2,7 @@
 ghost use Rattle.std.specs.Prelude.{◌≡◌};
 
 use cx_machine::Op;
-use cx_names::{Reply, ThreadNo};
+use cx_names::ThreadNo;
 
 /// What a caller asks for, with these numbers: a change, a look, or whichever of the two the state
 /// allows, the change first.
@@ -12,15 +12,6 @@ pub struct Wish {
     pub look: Option<Op>,
     pub a: i64,
     pub b: i64,
-}
-
-/// What was done of a wish, or by a call that could do two things.
-#[derive(Clone, Copy, Debug, PartialEq, Eq)]
-pub enum Either {
-    /// It made the change, with this reply, at this position.
-    Made(Reply, u32),
-    /// It made the look, with this reply, at this stamp.
-    Seen(Reply, u32),
 }
 
 /// A caller in the queue.

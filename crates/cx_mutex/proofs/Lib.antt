@@ -1,4 +1,5 @@
 pub mod Owning
+pub mod LevelCounts
 pub mod Orders
 pub mod Attempts
 pub mod Whole

@@ -2,6 +2,6 @@ pub mod Kinds
 pub mod Owners
 pub mod Mutexes
 pub mod Recursives
-pub mod Fronts
+pub mod Keys
 pub mod Together
 pub mod Trying

@@ -9,7 +9,7 @@ use Rattle.cx_machine.specs.Mutex as machine
 use Rattle.cx_turn.specs.declared.view.View.{View}
 use Rattle.cx_turn.specs.declared.pass.Pass.{Pass}
 use Rattle.cx_cell.specs.Cells.{IsCellPassWith, cell_seats}
-use Rattle.cx_cell.specs.Acts.{Makes, Looks}
+use Rattle.cx_turn.specs.Acts.{Makes, Looks}
 use Rattle.cx_mutex.specs.declared.mutex.Mutex.{Mutex}
 use Rattle.cx_mutex.specs.declared.mutex.Hold.{Hold}
 use Rattle.cx_mutex.specs.declared.mutex.Tried.{Tried}

@@ -1,19 +1,23 @@
 //! A condition can wait with a mutex.
 use crate::mutex::{Hold, Mutex, MutexPass};
+use cx_machine::MutexMachine;
 use cx_turn::Lockable;
 use std::sync::Wait;
 
 impl Lockable for Mutex {
-    ghost use Rattle.cx_mutex.specs.Mutexes.{IsMutexPass, IsBare, IsHeldBy};
-    ghost use Rattle.cx_mutex.specs.Fronts.{front_of, locks, unlocks};
+    ghost use Rattle.std.specs.Prelude.{refl};
+    ghost use Rattle.cx_mutex.specs.Mutexes.{IsMutexPassWith, IsBare, IsHeldBy};
+    ghost use Rattle.cx_mutex.specs.Keys.{locks, unlocks};
+
+    type M = MutexMachine;
 
     type Key = MutexPass;
 
     type Hold = Hold;
 
-    ghost fits = { IsMutexPass };
+    ghost knows = { IsMutexPassWith };
 
-    ghost front = { front_of };
+    ghost number = { λ p. p.number };
 
     ghost left = { λ p. p.left };
 
@@ -32,4 +36,8 @@ impl Lockable for Mutex {
     fn release<R: Wait>(&self, rt: &R, key: &mut MutexPass, hold: Hold) -> u32 {
         self.unlock(rt, key, hold)
     }
+
+    ghost own = { λ t. (refl, refl) };
+
+    ghost numbered = { λ x k v is. is.numbered };
 }

@@ -4,10 +4,10 @@ ghost use Rattle.cx_machine.specs.Mutex.{opening};
 ghost use Rattle.cx_cell.specs.Cells.{cell_start};
 ghost use Rattle.cx_mutex.specs.Kinds.{kept};
 
-use cx_cell::{Cell, Either};
+use cx_cell::Cell;
 use cx_machine::{MutexMachine, MutexState, Op};
 use cx_names::{NoMemory, ThreadNo};
-use cx_turn::Pass;
+use cx_turn::{Either, Pass};
 use std::alloc::Global;
 use std::sync::Wait;
 
@@ -61,6 +61,7 @@ impl Mutex {
         ensures seats { IfOk result (λ t. mutex_seats t.0 ≡ seats) }
         ensures pass { IfOk result (λ t. IsMutexPassWith t.0 t.1 (opening_view (machine.opening false numbers) seats calls 0)) }
         ensures bare { IfOk result (λ t. IsBare t.0 t.1) }
+        ensures numbers { IfOk result (λ t. t.0.numbers ≡ numbers) }
     {
         let state = MutexState::new(alloc, false, numbers)?;
         let (cell, pass) = Cell::new(alloc, state, seats, calls)?;

@@ -1,8 +1,14 @@
 //! Recursive mutexes [thread.mutex.recursive].
+ghost use Rattle.std.specs.Prelude.{◌≡◌, true};
+ghost use Rattle.cx_machine.specs.Mutex.{opening};
+ghost use Rattle.cx_cell.specs.Cells.{cell_start};
+ghost use Rattle.cx_mutex.specs.Kinds.{kept};
+
 use crate::mutex::{MutexPass, Tried};
-use cx_cell::{Cell, Either};
+use cx_cell::Cell;
 use cx_machine::{MutexMachine, MutexState, Op};
 use cx_names::{NoMemory, ThreadNo};
+use cx_turn::Either;
 use std::alloc::Global;
 use std::sync::Wait;
 
@@ -10,6 +16,7 @@ use std::sync::Wait;
 #[derive(Drop)]
 pub struct RecursiveMutex {
     pub(crate) cell: Cell<MutexMachine, MutexState>,
+    ghost opened: { cell_start kept cell ≡ opening true 0 },
 }
 
 /// One time that its owner locked a recursive mutex. It is given back by `unlock`.
@@ -32,7 +39,7 @@ impl RecursiveMutex {
     ghost use Rattle.cx_machine.specs.Mutex as machine;
     ghost use Rattle.cx_turn.specs.declared.view.View.{View};
     ghost use Rattle.cx_turn.specs.Views.{opening_view, split_left, split_right, both_of, having_met};
-    ghost use Rattle.cx_mutex.specs.Recursives.{IsRecursivePass, IsRecursivePassWith, recursive_seats, RecursiveMakes, RecursiveLooks, TriesLevel};
+    ghost use Rattle.cx_mutex.specs.Recursives.{IsRecursivePass, IsRecursivePassWith, recursive_seats, HasLevels, IsLevelOf, KeepsLevels, GetsLevel, LosesLevel, RecursiveMakes, RecursiveLooks, TriesLevel};
 
     /// A recursive mutex that nobody owns, for at most `seats` passes and `calls` changes, and its first
     /// pass.
@@ -45,6 +52,7 @@ impl RecursiveMutex {
         requires calls { calls < 2 ^ 28 }
         ensures seats { IfOk result (λ t. recursive_seats t.0 ≡ seats) }
         ensures pass { IfOk result (λ t. IsRecursivePassWith t.0 t.1 (opening_view (machine.opening true 0) seats calls 0)) }
+        ensures levels { IfOk result (λ t. HasLevels t.0 t.1 0) }
     {
         let state = MutexState::new(alloc, true, 0)?;
         let (cell, pass) = Cell::new(alloc, state, seats, calls)?;
@@ -58,9 +66,11 @@ impl RecursiveMutex {
         requires left { 1 ≤ pass.old.left }
         ensures idle { IsRecursivePass self.now pass.new }
         ensures left { pass.old.left ≤ pass.new.left + 1 }
-        ensures own { IfOk result (λ t. t.0.by ≡ pass.new.number) }
+        ensures level { IfOk result (λ t. IsLevelOf self.now pass.new t.0) }
+        ensures more { IfOk result (λ t. GetsLevel self.now pass.old pass.new) }
         ensures made { IfOk result (λ t. RecursiveMakes self.now pass.old pass.new (change pass.old.number ops.Lock (pos 0) (pos 0) replies.Ok) t.1) }
         ensures most { IfErr result (λ m. RecursiveLooks self.now pass.old pass.new (look_of pass.old.number ops.Lock (pos 0) (pos 0) replies.MaxLevels m.at)) }
+        ensures same { IfErr result (λ m. KeepsLevels self.now pass.old pass.new) }
     {
         match self.cell.wait_either(rt, pass, Op::Lock, Op::Lock) {
             Either::Made(_, at) => Ok((Level { by: pass.number() }, at)),
@@ -93,9 +103,10 @@ impl RecursiveMutex {
     pub fn unlock<R: Wait>(&self, rt: &R, pass: &mut MutexPass, level: Level) -> u32
         requires pass { IsRecursivePass self.now pass.old }
         requires left { 1 ≤ pass.old.left }
-        requires own { level.by ≡ pass.old.number }
+        requires level { IsLevelOf self.now pass.old level }
         ensures idle { IsRecursivePass self.now pass.new }
         ensures left { pass.new.left + 1 ≡ pass.old.left }
+        ensures less { LosesLevel self.now pass.old pass.new }
         ensures made { RecursiveMakes self.now pass.old pass.new (change pass.old.number ops.Unlock (pos 0) (pos 0) replies.Ok) result }
     {
         let _ = level;
@@ -103,7 +114,8 @@ impl RecursiveMutex {
         at
     }
 
-    /// Splits a new pass off the first one, with `calls` of its changes and the next number.
+    /// Splits a new pass off the first one, with `calls` of its changes and the next number. It has no
+    /// level.
     pub fn split(&self, first: &mut MutexPass, calls: u32) -> MutexPass
         requires pass { IsRecursivePass self.now first.old }
         requires first { first.old.number.0 ≡ 0 }
@@ -111,25 +123,30 @@ impl RecursiveMutex {
         requires calls { calls ≤ first.old.left }
         ensures first { (v : View machine.Mutex) → IsRecursivePassWith self.now first.old v → IsRecursivePassWith self.now first.new (split_left v calls) }
         ensures second { (v : View machine.Mutex) → IsRecursivePassWith self.now first.old v → IsRecursivePassWith self.now result (split_right v calls) }
+        ensures same { KeepsLevels self.now first.old first.new }
+        ensures none { HasLevels self.now result 0 }
     {
         self.cell.split(first, calls)
     }
 
-    /// Takes another pass in: the pass gets what it has left and has seen.
+    /// Takes another pass in: the pass gets what it has left and has seen. A level of the pass stays one.
     pub fn join(&self, pass: &mut MutexPass, other: MutexPass)
         requires pass { IsRecursivePass self.now pass.old }
         requires other { IsRecursivePass self.now other }
-        ensures { (v w : View machine.Mutex) → IsRecursivePassWith self.now pass.old v → IsRecursivePassWith self.now other w → IsRecursivePassWith self.now pass.new (both_of v w) }
+        ensures seen { (v w : View machine.Mutex) → IsRecursivePassWith self.now pass.old v → IsRecursivePassWith self.now other w → IsRecursivePassWith self.now pass.new (both_of v w) }
+        ensures same { KeepsLevels self.now pass.old pass.new }
     {
         self.cell.join(pass, other);
     }
 
-    /// Lets `to` see what `from` has seen.
+    /// Lets `to` see what `from` has seen. Their levels stay levels.
     pub fn meet(&self, from: &mut MutexPass, to: &mut MutexPass)
         requires from { IsRecursivePass self.now from.old }
         requires to { IsRecursivePass self.now to.old }
         ensures from { (v : View machine.Mutex) → IsRecursivePassWith self.now from.old v → IsRecursivePassWith self.now from.new v }
         ensures to { (v w : View machine.Mutex) → IsRecursivePassWith self.now from.old v → IsRecursivePassWith self.now to.old w → IsRecursivePassWith self.now to.new (having_met w v) }
+        ensures same { KeepsLevels self.now from.old from.new }
+        ensures to_same { KeepsLevels self.now to.old to.new }
     {
         self.cell.meet(from, to);
     }

@@ -17,6 +17,20 @@ pub struct UniqueLock<'a> {
 }
 
 impl<'a> UniqueLock<'a> {
+    // The mutex, where there is one that isn't held.
+    fn unheld(&self) -> Result<&'a Mutex, Errc>
+        ensures no_mutex { self.now.mutex ≡ None → result ≡ Err errors.OperationNotPermitted }
+        ensures owned { IsSome self.now.mutex → IsSome self.now.held → result ≡ Err errors.ResourceDeadlockWouldOccur }
+        ensures free { IsSome self.now.mutex → self.now.held ≡ None → IsOk result }
+        ensures mutex { IfOk result (λ m. (self.now.mutex ≡ Some m) × (self.now.held ≡ None)) }
+    {
+        match self.mutex {
+            None => Err(Errc::OperationNotPermitted),
+            Some(_) if self.held.is_some() => Err(Errc::ResourceDeadlockWouldOccur),
+            Some(mutex) => Ok(mutex),
+        }
+    }
+
     /// Waits until nobody owns the mutex, and locks it. Gives the position.
     ///
     /// Refuses OperationNotPermitted where there is no mutex, and ResourceDeadlockWouldOccur where it
@@ -31,12 +45,10 @@ impl<'a> UniqueLock<'a> {
         ensures mutex { self.new.mutex ≡ self.old.mutex }
         ensures locked { IfOk result (λ k. IfSome self.old.mutex (λ m. IsMutexPass m.now pass.new × MatchOption self.new.held ⊥ (λ h. IsHeldBy m.now pass.new h) × MutexMakes m.now pass.old pass.new (change pass.old.number ops.Lock (pos 0) (pos 0) replies.Ok) k)) }
     {
-        let Some(mutex) = self.mutex else {
-            return Err(Errc::OperationNotPermitted);
+        let mutex = match self.unheld() {
+            Ok(mutex) => mutex,
+            Err(refusal) => return Err(refusal),
         };
-        if self.held.is_some() {
-            return Err(Errc::ResourceDeadlockWouldOccur);
-        }
         let (hold, at) = mutex.lock(rt, pass);
         self.held = Some(hold);
         Ok(at)
@@ -56,12 +68,10 @@ impl<'a> UniqueLock<'a> {
         ensures mutex { self.new.mutex ≡ self.old.mutex }
         ensures tried { IfOk result (λ t. IfSome self.old.mutex (λ m. IsMutexPass m.now pass.new × UniqueTries m.now pass.old pass.new self.new.held t.0 t.1)) }
     {
-        let Some(mutex) = self.mutex else {
-            return Err(Errc::OperationNotPermitted);
+        let mutex = match self.unheld() {
+            Ok(mutex) => mutex,
+            Err(refusal) => return Err(refusal),
         };
-        if self.held.is_some() {
-            return Err(Errc::ResourceDeadlockWouldOccur);
-        }
         match mutex.try_lock(rt, pass) {
             Tried::Got(hold, at) => {
                 self.held = Some(hold);

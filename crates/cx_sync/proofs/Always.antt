@@ -1,5 +1,5 @@
 -- A state always allows one of the two.
-use Rattle.std.proofs.Common.{◌≡◌, ◌∙◌, ℕ, ℤ, pos, ◌^◌, ◌<◌, Option, Some, None, Bool, true, false, not, sym, ap, subst, if◌then◌else◌, nat_lt, ◌==◌, zero, suc, arith}
+use Rattle.std.proofs.Common.{◌≡◌, ◌∙◌, ℕ, ℤ, pos, ◌^◌, ◌<◌, Option, Some, None, Bool, true, false, not, ap, subst, if◌then◌else◌, nat_lt, ◌==◌, zero, suc, arith}
 use Rattle.std.proofs.lemmas.Bool.{lt-ltb}
 use Rattle.cx_names.specs.declared.ThreadNo.{ThreadNo}
 use Rattle.cx_names.specs.declared.Reply.TheVariants as replies

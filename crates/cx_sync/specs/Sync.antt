@@ -1,13 +1,13 @@
 -- What a clause says of a semaphore, a latch and their passes.
-use Rattle.std.specs.Prelude.{◌≡◌, ℕ}
+use Rattle.std.specs.Prelude.{ℕ}
 use Rattle.cx_machine.specs.Semaphore as semaphore
 use Rattle.cx_machine.specs.Latch as latch
 use Rattle.cx_machine.specs.declared.kind.Entry.{Entry}
 use Rattle.cx_machine.specs.declared.kind.Look.{Look}
 use Rattle.cx_turn.specs.declared.view.View.{View}
 use Rattle.cx_turn.specs.declared.pass.Pass.{Pass}
-use Rattle.cx_cell.specs.Cells.{IsCellPassWith, cell_start, cell_seats}
-use Rattle.cx_cell.specs.Acts.{Makes, Looks}
+use Rattle.cx_cell.specs.Cells.{IsCellPassWith, cell_seats}
+use Rattle.cx_turn.specs.Acts.{Makes, Looks}
 use Rattle.cx_sync.specs.declared.semaphore.Semaphore.{Semaphore}
 use Rattle.cx_sync.specs.declared.latch.Latch.{Latch}
 use Rattle.cx_sync.specs.Kinds.{counting, latching, kept}

@@ -24,7 +24,7 @@ impl Latch {
     ghost use Rattle.cx_machine.specs.Latch as latch;
     ghost use Rattle.cx_turn.specs.declared.view.View.{View};
     ghost use Rattle.cx_turn.specs.Views.{opening_view, split_left, split_right, both_of, having_met, less_share, given};
-    ghost use Rattle.cx_cell.specs.Acts.{Makes, Looks};
+    ghost use Rattle.cx_turn.specs.Acts.{Makes, Looks};
     ghost use Rattle.cx_sync.specs.Kinds.{latching};
     ghost use Rattle.cx_sync.specs.Sync.{IsLatchPass, IsLatchPassWith, latch_seats, LatchMakes, LatchLooks};
 

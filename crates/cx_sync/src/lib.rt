@@ -3,8 +3,6 @@
 
 mod latch;
 mod semaphore;
-#[cfg(test)]
-mod tests;
 
 pub use latch::{Latch, LatchPass};
 pub use semaphore::{Over, Semaphore, SemaphorePass, Taking};

@@ -1,8 +1,8 @@
 //! Counting semaphores [thread.sema.cnt].
-use cx_cell::{Cell, Either};
+use cx_cell::Cell;
 use cx_machine::{Op, SemaphoreMachine, SemaphoreState};
 use cx_names::NoMemory;
-use cx_turn::Pass;
+use cx_turn::{Either, Pass};
 use std::alloc::Global;
 use std::sync::Wait;
 

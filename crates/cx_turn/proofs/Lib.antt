@@ -6,3 +6,4 @@ pub mod Keeps
 pub mod Partings
 pub mod Known
 pub mod Calls
+pub mod Moves

@@ -4,4 +4,4 @@ pub mod Turning
 pub mod Picked
 pub mod Passes
 pub mod Lending
-pub mod GoesOn
+pub mod Acts

@@ -6,11 +6,13 @@
 //! - `Note`: a part of a pass that goes from hand to hand.
 //! - `Held`: the state of a turn that a pass has taken.
 //! - `Made`: a change that is made in the state, and counted when the turn is given up.
+//! - `Either`: what a call did that could make a change or a look.
 //! - `Lockable`: a lock that a condition can wait with.
 //! - `Board`, `Opening`, `TurnRule`, `Desk`, `View`, `Gone`: the table below, and what its seats know.
 #![tactic(auto)]
 
 mod cuts;
+mod either;
 mod held;
 mod lend;
 mod lockable;
@@ -18,12 +20,11 @@ mod pass;
 mod plays;
 mod rule;
 mod steps;
-#[cfg(test)]
-mod tests;
 mod turn;
 mod view;
 mod waits;
 
+pub use either::Either;
 pub use held::{Held, Made};
 pub use lockable::Lockable;
 pub use pass::{Note, Pass};

@@ -1,5 +1,5 @@
 //! A caller's tokens on one turn.
-ghost use Rattle.std.specs.Prelude.{◌≡◌};
+ghost use Rattle.std.specs.Prelude.{◌≡◌, ℕ};
 
 use crate::view::View;
 use atomic_table::Badge;
@@ -56,6 +56,18 @@ impl<M> Pass<M> {
 }
 
 impl<M> Note<M> {
+    /// A note of no turn, with nothing in it: what is left in the place of one that is moved out.
+    pub fn blank() -> Note<M>
+        ensures { (result.len ≡ 0) × (result.left ≡ 0) × (result.share ≡ 0) }
+    {
+        Note {
+            len: 0,
+            left: 0,
+            share: 0,
+            badge: Badge::blank(),
+        }
+    }
+
     /// The length of the history that the note has seen.
     pub fn len(&self) -> u32
         ensures { result ≡ self.now.len }

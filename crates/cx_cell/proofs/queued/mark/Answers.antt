@@ -1,21 +1,24 @@
-use Rattle.std.proofs.Common.{◌≡◌, ◌∙◌, ℕ, ◌+◌, ◌<◌, List, length, get_or, set, slice_get, Some, sym, ap, subst, arith, length-set, get_or-set_same, get_or-set_other}
-use mathlib.Core.Logic.{dite}
-use native.Mathlib.Decide.{ℕ_discrete}
+use Rattle.std.proofs.Common.{◌<◌, length, arith}
 use Rattle.std.proofs.lemmas.Option.{slice_get-get_or}
-use Rattle.cx_turn.proofs.Histories.{some_is}
-use Rattle.cx_cell.specs.Queue.{IsMarked}
+use Rattle.cx_cell.proofs.Queues.{marked_all, marked_more, due_more, marked_whole, due_whole}
 use Rattle.cx_cell.proofs.queued.mark.Goals as goal
 
--- a fact of the first i stands of one more, once the i-th is written
-one_more : {A : Type 0} (P : A → Type 0) (xs : List A) (i : ℕ) (y : A) → i < length xs → P y → ((k : ℕ) → k < i → (w : A) → slice_get xs k ≡ Some w → P w) → (k : ℕ) → k < i + 1 → (w : A) → slice_get (set xs i y) k ≡ Some w → P w
-one_more {A} P xs i y within mine before k low w at =
-    let l = length-set xs i y in
-    let read : slice_get (set xs i y) k ≡ Some (get_or (set xs i y) k y) = slice_get-get_or (set xs i y) k y (omega arith) in
-    let is : w ≡ get_or (set xs i y) k y = some_is w (get_or (set xs i y) k y) (sym at ∙ read) in
-    dite (ℕ_discrete k i)
-    (λ e. let same : w ≡ y = is ∙ (ap (λ (j : ℕ). get_or (set xs i y) j y) e ∙ get_or-set_same xs i y y within) in subst P (sym same) mine)
-    (λ ne. let other : get_or (set xs i y) k y ≡ get_or xs k y = get_or-set_other xs i k y y ne in
-    before k (omega arith) w (slice_get-get_or xs k y (omega arith) ∙ ap (λ (x : A). Some x) (sym other ∙ sym is)))
-
 pub loop-i-preserved : goal.loop-i-preserved
-loop-i-preserved g c = one_more (IsMarked g.M.Meaning (g.S.Machine.meaning c.args.state.now)) c.loop-i.queue c.loop-i.i c.mark_one.new.waiter (omega (arith, c.loop-i-test.true, c.loop-i.auto.queue, c.loop-i.auto.i-end)) c.mark_one.ensures.marked c.loop-i.invariant
+loop-i-preserved g c =
+    let m = g.S.Machine.meaning c.args.state.now in
+    let was = c.loop-i.invariant in
+    let low : c.loop-i.i < length c.loop-i.queue = omega (arith, c.loop-i-test.true, c.loop-i.auto.queue) in
+    let at = slice_get-get_or c.loop-i.queue c.loop-i.i _ low in
+    let one = c.mark_one.ensures in
+    (marked_more g.M.Meaning m c.args.queue.now c.loop-i.queue c.loop-i.i _ c.mark_one.new.waiter was.0 low at one.marks, due_more g.M.Meaning m c.args.queue.now c.loop-i.queue c.loop-i.i _ c.args.called.now c.loop-i.called c.mark_one.new.called was.0 at was.1 one.called)
+
+pub returns-clause-marked : goal.returns-clause-marked
+returns-clause-marked g c =
+    let m = g.S.Machine.meaning c.args.state.now in
+    marked_all g.M.Meaning m c.args.queue.now c.loop-i.queue (marked_whole g.M.Meaning m c.args.queue.now c.loop-i.queue c.loop-i.i (omega (arith, c.loop-i-test.false)) c.loop-i.invariant.0)
+
+pub returns-clause-marks : goal.returns-clause-marks
+returns-clause-marks g c = marked_whole g.M.Meaning (g.S.Machine.meaning c.args.state.now) c.args.queue.now c.loop-i.queue c.loop-i.i (omega (arith, c.loop-i-test.false)) c.loop-i.invariant.0
+
+pub returns-clause-called : goal.returns-clause-called
+returns-clause-called g c = due_whole g.M.Meaning (g.S.Machine.meaning c.args.state.now) c.args.queue.now c.loop-i.i c.args.called.now c.loop-i.called (omega (arith, c.loop-i-test.false)) c.loop-i.invariant.1

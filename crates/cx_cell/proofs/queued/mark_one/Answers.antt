@@ -1,4 +1,4 @@
-use Rattle.std.proofs.Common.{◌≡◌, ◌∙◌, Option, refl, sym, subst, None, IfSome, IsSome, true, false}
+use Rattle.std.proofs.Common.{◌≡◌, ◌∙◌, Option, refl, sym, subst, None, IfSome, IsSome, true, false, inr}
 use Rattle.cx_names.specs.declared.ThreadNo.{ThreadNo}
 use Rattle.cx_machine.specs.declared.machine.Meaning.{Ghosts}
 use Rattle.cx_machine.specs.Meaning.{change, look_of, IsShut, ShowsNone}
@@ -6,6 +6,8 @@ use Rattle.cx_cell.specs.declared.wish.Wish.{Wish}
 use Rattle.cx_cell.specs.declared.offer.Offer.{Offer}
 use Rattle.cx_cell.specs.declared.offer.Offer.TheVariants.{Change, Look, Nothing}
 use Rattle.cx_cell.specs.Acts.{Denies, Offers}
+use Rattle.cx_cell.specs.Queue.{IsDue}
+use Rattle.cx_cell.proofs.Queues.{calls_one}
 use Rattle.cx_cell.proofs.queued.mark_one.Goals as goal
 
 -- a state that offers something does not deny
@@ -21,8 +23,10 @@ offers_some K m by w (Look op r) is some d =
 offers_some K m by w Nothing is some d = some refl
 
 pub returns-in_default : goal.returns-in_default
-returns-in_default g c = record {
-  marked = λ e. absurd (let no : true ≡ false = e in cc);
-  same = (refl, refl);
-  alone = λ e f d. offers_some g.M.Meaning (g.S.Machine.meaning c.args.state.now) c.args.waiter.now.seat c.args.waiter.now.wish c.offered.result c.offered.ensures c.in_default.not-Nothing d;
-}
+returns-in_default g c =
+    let m = g.S.Machine.meaning c.args.state.now in
+    let w = c.args.waiter.now in
+    let allowed : Denies g.M.Meaning w.seat w.wish m → ⊥ = λ d. offers_some g.M.Meaning m w.seat w.wish c.offered.result c.offered.ensures c.in_default.not-Nothing d in record {
+      marks = record { seat = refl; wish = refl; kept = λ e. refl; due = λ e. inr allowed; rest = λ e. absurd (let no : true ≡ false = e in cc) };
+      called = calls_one (IsDue g.M.Meaning m w) _ _ w.seat.0 c.add.ensures (λ n d. d.0) (refl, c.if-waiter.false, allowed);
+    }

@@ -10,8 +10,11 @@ use Rattle.cx_turn.specs.declared.pass.Pass.{Pass}
 use Rattle.cx_turn.specs.Passes.{CanPay}
 use Rattle.cx_turn.specs.Lending.{with_hand, with_state}
 use Rattle.cx_cell.specs.Cells.{IsCellPassWith}
-use Rattle.cx_cell.specs.Queue.{HasRoom}
-use Rattle.cx_cell.specs.Acts.{Makes, Looks, Finds, Denies, Pays}
+use Rattle.cx_cell.specs.declared.queued.Queued.{Queued}
+use Rattle.cx_cell.specs.declared.queued.Kept.{Kept}
+use Rattle.cx_cell.specs.Queue.{AreMarked, HasRoom}
+use Rattle.cx_turn.specs.Acts.{Makes, Looks, Finds}
+use Rattle.cx_cell.specs.Acts.{Denies, Pays}
 use Rattle.cx_cell.proofs.Room.{room_for, room_on}
 use Rattle.cx_cell.proofs.Attempting.{taker, low_number, made, made_on, looked, found, pays_on}
 use Rattle.cx_cell.proofs.cell.Cell.attempt.Given.{Over}
@@ -59,6 +62,14 @@ look-at-requires-clause-shown g c =
     let a : to_z w64 (of_z w64 w.a) ≡ w.a = search rules in
     let b : to_z w64 (of_z w64 w.b) ≡ w.b = search rules in
     (λ i. g.M.Meaning.shows (g.S.Machine.meaning (sym kept i).state) (look_of (sym c.number-by.ensures i) c.in-Look.op (a i) (b i) c.in-Look.reply (length h.place.me.0.front))) ∙ c.in-Look.ensures.1 (length h.place.me.0.front)
+
+pub put_off-queued-requires-clause-marked : goal.put_off-queued-requires-clause-marked
+put_off-queued-requires-clause-marked g c = subst (λ (z : Queued g.row.S.Denot). AreMarked g.M.Meaning (g.S.Machine.meaning z.kept.value.state) z.kept.value.queue.items) (sym c.state_mut-in-Nothing.ensures.value) c.take-held.ensures.fits.0
+
+pub put_off-queued-requires-clause-denied : goal.put_off-queued-requires-clause-denied
+put_off-queued-requires-clause-denied g c =
+    let kept : c.deref.result.now ≡ c.take-held.result.state.kept.value = c.deref.ensures ∙ ap (λ q. q.kept.value) c.state.ensures in
+    subst (λ (z : Kept g.row.S.Denot). Denies g.M.Meaning c.number-by.result c.args.wish.now (g.S.Machine.meaning z.state)) (kept ∙ ap (λ q. q.kept.value) (sym c.state_mut-in-Nothing.ensures.value)) c.in-Nothing.ensures
 
 change_at : (g : Over) (c : After-leave_with-at g) (q : Pass g.row.M.Denot) → q ≡ c.leave_with-at.new.self.1.0 → (v : View g.row.M.Denot) → IsCellPassWith g.S.Machine.meaning g.M.Meaning c.args.self.now c.args.pass.now v
     → (w : View g.row.M.Denot) × IsCellPassWith g.S.Machine.meaning g.M.Meaning c.args.self.now q w × ((op : Op) × (c.args.wish.now.change ≡ Some op) × Makes g.M.Meaning v w (change c.args.pass.now.number op c.args.wish.now.a c.args.wish.now.b c.in-Change.reply) c.leave_with-at.result)

@@ -3,10 +3,12 @@ use Rattle.cx_names.specs.declared.ThreadNo.{ThreadNo}
 use Rattle.cx_machine.specs.declared.kind.Op.{Op}
 use Rattle.cx_turn.specs.declared.view.View.{View}
 use Rattle.cx_turn.proofs.Histories.{head_is}
-use Rattle.cx_cell.specs.declared.wish.Either.{Either}
+use Rattle.cx_turn.specs.declared.either.Either.{Either}
 use Rattle.cx_cell.specs.Cells.{IsCellPassWith}
-use Rattle.cx_cell.specs.Acts.{Attempts, Does, Denies, Sees, Pays}
-use Rattle.cx_cell.proofs.Attempting.{sees_self, finds_on, does_on, pays_seen, if_some_map, same_pass}
+use Rattle.cx_turn.specs.Acts.{Sees}
+use Rattle.cx_cell.specs.Acts.{Attempts, Does, Denies, Pays}
+use Rattle.cx_turn.proofs.Moves.{sees_self, finds_on}
+use Rattle.cx_cell.proofs.Attempting.{does_on, pays_seen, if_some_map, same_pass}
 use Rattle.cx_cell.proofs.cell.Cell.fulfil.Goals as goal
 
 pub loop-init : goal.loop-init

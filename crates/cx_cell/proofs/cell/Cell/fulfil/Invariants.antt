@@ -1,5 +1,5 @@
 use Rattle.cx_turn.specs.declared.view.View.{View}
-use Rattle.cx_cell.specs.Acts.{Sees}
+use Rattle.cx_turn.specs.Acts.{Sees}
 use Rattle.cx_cell.specs.Cells.{IsCellPassWith}
 use Rattle.cx_cell.proofs.cell.Cell.fulfil.Given as goal
 

@@ -1,8 +1,9 @@
 use Rattle.std.proofs.Common.{rules, ◌≡◌, ◌∙◌, subst, ap, Some, Option}
 use Rattle.cx_machine.specs.Meaning.{ShowsNone}
-use Rattle.cx_cell.specs.declared.wish.Either.{Either}
+use Rattle.cx_turn.specs.declared.either.Either.{Either}
 use Rattle.cx_cell.specs.Acts.{Attempts, Denies}
-use Rattle.cx_cell.proofs.Attempting.{looks_wish, dark_wish, finds_map}
+use Rattle.cx_turn.proofs.Moves.{finds_map}
+use Rattle.cx_cell.proofs.Attempting.{looks_wish, dark_wish}
 use Rattle.cx_cell.proofs.cell.Cell.look.Goals as goal
 
 pub returns-in-Seen-clause-seen : goal.returns-in-Seen-clause-seen

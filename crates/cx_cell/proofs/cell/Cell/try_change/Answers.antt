@@ -1,9 +1,10 @@
 use Rattle.std.proofs.Common.{rules, ◌≡◌, ◌∙◌, subst, ap, Some, Option}
 use Rattle.cx_machine.specs.Meaning.{IsShut}
-use Rattle.cx_cell.specs.declared.wish.Either.{Either}
+use Rattle.cx_turn.specs.declared.either.Either.{Either}
 use Rattle.cx_cell.specs.Cells.{IsCellPassWith}
 use Rattle.cx_cell.specs.Acts.{Attempts, Denies}
-use Rattle.cx_cell.proofs.Attempting.{pays_wish, makes_wish, shut_wish, finds_map}
+use Rattle.cx_turn.proofs.Moves.{finds_map}
+use Rattle.cx_cell.proofs.Attempting.{pays_wish, makes_wish, shut_wish}
 use Rattle.cx_cell.proofs.cell.Cell.try_change.Goals as goal
 
 pub act-requires-clause-pays : goal.act-requires-clause-pays

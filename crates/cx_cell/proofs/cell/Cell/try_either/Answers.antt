@@ -1,9 +1,10 @@
 use Rattle.std.proofs.Common.{rules, ◌≡◌, ◌∙◌, subst, Option}
 use Rattle.cx_machine.specs.Meaning.{IsShut, ShowsNone}
-use Rattle.cx_cell.specs.declared.wish.Either.{Either}
+use Rattle.cx_turn.specs.declared.either.Either.{Either}
 use Rattle.cx_cell.specs.Cells.{IsCellPassWith}
 use Rattle.cx_cell.specs.Acts.{Attempts, Denies}
-use Rattle.cx_cell.proofs.Attempting.{pays_wish, shut_wish, dark_wish, does_either, finds_map, if_some_of, if_none_of}
+use Rattle.cx_turn.proofs.Moves.{finds_map}
+use Rattle.cx_cell.proofs.Attempting.{pays_wish, shut_wish, dark_wish, does_either, if_some_of, if_none_of}
 use Rattle.cx_cell.proofs.cell.Cell.try_either.Goals as goal
 
 pub act-requires-clause-pays : goal.act-requires-clause-pays

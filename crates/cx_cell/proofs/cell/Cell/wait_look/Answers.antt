@@ -1,5 +1,5 @@
 use Rattle.std.proofs.Common.{rules, ◌≡◌, ◌∙◌, subst}
-use Rattle.cx_cell.specs.declared.wish.Either.{Either}
+use Rattle.cx_turn.specs.declared.either.Either.{Either}
 use Rattle.cx_cell.specs.Acts.{Does}
 use Rattle.cx_cell.proofs.Attempting.{looks_wish}
 use Rattle.cx_cell.proofs.cell.Cell.wait_look.Goals as goal

@@ -3,7 +3,8 @@ use Rattle.cx_turn.specs.declared.pass.Pass.{Pass}
 use Rattle.cx_cell.specs.declared.wish.Waiter.{Waiter}
 use Rattle.cx_cell.specs.Cells.{IsCellPassWith}
 use Rattle.cx_cell.specs.Queue.{IsMarked, StandsIn}
-use Rattle.cx_cell.proofs.Attempting.{found, finds_map, if_some_map}
+use Rattle.cx_turn.proofs.Moves.{finds_map}
+use Rattle.cx_cell.proofs.Attempting.{found, if_some_map}
 use Rattle.cx_cell.proofs.cell.Cell.waiter.Goals as goal
 
 pub returns-clause-marked : goal.returns-clause-marked

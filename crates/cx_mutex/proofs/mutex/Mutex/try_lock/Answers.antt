@@ -5,11 +5,12 @@ use Rattle.cx_machine.specs.Meaning.{change, look_of}
 use Rattle.cx_machine.specs.Mutex as machine
 use Rattle.cx_turn.specs.declared.view.View.{View}
 use Rattle.cx_turn.proofs.Histories.{head_is}
-use Rattle.cx_cell.specs.declared.wish.Either.{Either}
-use Rattle.cx_cell.specs.Acts.{Makes, Looks, DoesEither}
+use Rattle.cx_turn.specs.declared.either.Either.{Either}
+use Rattle.cx_turn.specs.Acts.{Makes, Looks, DoesEither}
 use Rattle.cx_mutex.specs.Kinds.{locking}
 use Rattle.cx_mutex.specs.Owners.{Owning, OwnedByAnother}
-use Rattle.cx_mutex.proofs.Owning.{owning_after, owning_on, tried_owns, tried_not, locks_or_not, missed_owner, plain_first, IsPlain}
+use Rattle.cx_machine.proofs.Owners.{tried_owns, tried_not, locks_or_not, plain_first, IsPlain}
+use Rattle.cx_mutex.proofs.Owning.{owning_after, owning_on, missed_owner}
 use Rattle.cx_mutex.proofs.mutex.Mutex.try_lock.Goals as goal
 
 pub unreachable-requires : goal.unreachable-requires
@@ -30,7 +31,7 @@ returns-in-Made-clause-tried g c =
         c.number.ensures,
         λ v is.
             let same : ◌≡◌ {A = View machine.Mutex} q.0 v = head_is q.0 v (sym q.1.views ∙ is.views) in
-            subst (λ (x : View machine.Mutex). Owning true x) same (owning_after true p.0 q.0 (change by ops.TryLock (pos 0) (pos 0) c.in-Made.field-0) c.in-Made.at d (sym p.1.numbered) (λ now after enabled es leads. (tried_owns now after by c.in-Made.field-0 enabled).1)),
+            subst (λ (x : View machine.Mutex). Owning true x) same (owning_after true p.0 q.0 (change by ops.TryLock (pos 0) (pos 0) c.in-Made.field-0) c.in-Made.at d (sym p.1.numbered) (tried_owns d.now d.after by c.in-Made.field-0 d.enabled).1),
       ),
       λ v is.
           let q = c.in-Some.ensures.done v is in

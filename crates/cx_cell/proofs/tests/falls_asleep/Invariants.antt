@@ -1,6 +1,0 @@
-use Rattle.cx_turn.specs.GoesOn.{kept, counting}
-use Rattle.cx_cell.specs.Cells.{IsCellPass}
-use Rattle.cx_cell.proofs.tests.falls_asleep.Given as goal
-
-abbrev pub invariant-loop : goal.invariant-loop
-invariant-loop g l = IsCellPass kept counting l.cell l.pass

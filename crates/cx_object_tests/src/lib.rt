@@ -1,0 +1,19 @@
+//! Tests of machines, turns, cells, mutexes, semaphores and latches, by their public calls; and a
+//! caller of two recursive mutexes, which is proved from their contracts alone.
+#![tactic(auto)]
+
+#[cfg(test)]
+mod cell;
+mod coupling;
+#[cfg(test)]
+mod machine;
+#[cfg(test)]
+mod mutex;
+#[cfg(test)]
+mod states;
+#[cfg(test)]
+mod sync;
+#[cfg(test)]
+mod turn;
+
+pub use coupling::hand_over;
