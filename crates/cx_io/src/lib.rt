@@ -21,12 +21,8 @@ mod running;
 mod sink;
 mod source;
 mod spawner;
-#[cfg(test)]
-mod spawner_tests;
 mod standard;
 mod sure;
-#[cfg(test)]
-mod tests;
 
 pub use buffer::{Buffer, SureBuffer};
 pub use bytes::{Bytes, SureBytes};

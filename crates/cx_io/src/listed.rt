@@ -12,6 +12,7 @@ pub struct Listed {
     next: u64,
     pub(crate) faults: u64,
     pub(crate) started: u64,
+    pub(crate) joined: u64,
     pub(crate) carried: u64,
 }
 
@@ -22,6 +23,7 @@ impl Listed {
         ensures next { result.next ≡ 1 }
         ensures faults { result.faults ≡ 0 }
         ensures started { result.started ≡ 0 }
+        ensures joined { result.joined ≡ 0 }
         ensures carried { result.carried ≡ 0 }
     {
         Listed {
@@ -30,6 +32,7 @@ impl Listed {
             next: 1,
             faults: 0,
             started: 0,
+            joined: 0,
             carried: 0,
         }
     }
@@ -43,6 +46,8 @@ impl<J: Job> Spawner<J> for Listed {
 
     ghost started = { λ s. s.started };
 
+    ghost joined = { λ s. s.joined };
+
     ghost carried = { λ s. s.carried };
 
     fn alloc(&self) -> Global {
@@ -55,6 +60,7 @@ impl<J: Job> Spawner<J> for Listed {
         ensures cause { IsTrue result → Rose self.old.faults self.new.faults }
         ensures faults { self.old.faults ≤ self.new.faults }
         ensures started { self.new.started ≡ self.old.started }
+        ensures joined { self.new.joined ≡ self.old.joined }
         ensures carried { self.new.carried ≡ self.old.carried }
     {
         let number = self.next;
@@ -74,7 +80,8 @@ impl<J: Job> Spawner<J> for Listed {
         self.started = self.started.saturating_add(1);
     }
 
-    fn count_steps(&mut self, steps: u64) {
+    fn count_join(&mut self, steps: u64) {
+        self.joined = self.joined.saturating_add(1);
         self.carried = self.carried.saturating_add(steps);
     }
 }

@@ -11,6 +11,7 @@ pub struct Real {
     alloc: Global,
     pub(crate) faults: u64,
     pub(crate) started: u64,
+    pub(crate) joined: u64,
     pub(crate) carried: u64,
 }
 
@@ -19,12 +20,14 @@ impl Real {
     pub fn new(alloc: Global) -> Real
         ensures faults { result.faults ≡ 0 }
         ensures started { result.started ≡ 0 }
+        ensures joined { result.joined ≡ 0 }
         ensures carried { result.carried ≡ 0 }
     {
         Real {
             alloc,
             faults: 0,
             started: 0,
+            joined: 0,
             carried: 0,
         }
     }
@@ -34,6 +37,8 @@ impl<J: Job> Spawner<J> for Real {
     ghost faults = { λ s. s.faults };
 
     ghost started = { λ s. s.started };
+
+    ghost joined = { λ s. s.joined };
 
     ghost carried = { λ s. s.carried };
 
@@ -54,7 +59,8 @@ impl<J: Job> Spawner<J> for Real {
         self.started = self.started.saturating_add(1);
     }
 
-    fn count_steps(&mut self, steps: u64) {
+    fn count_join(&mut self, steps: u64) {
+        self.joined = self.joined.saturating_add(1);
         self.carried = self.carried.saturating_add(steps);
     }
 }

@@ -19,6 +19,9 @@ pub trait Spawner<J: Job> {
     /// How many jobs were started.
     ghost started: { Self → ℕ };
 
+    /// How many jobs were joined.
+    ghost joined: { Self → ℕ };
+
     /// How many steps the joined jobs told of, in all.
     ghost carried: { Self → ℕ };
 
@@ -30,6 +33,7 @@ pub trait Spawner<J: Job> {
         ensures cause { IsTrue result → Rose (faults self.old) (faults self.new) }
         ensures faults { faults self.old ≤ faults self.new }
         ensures started { started self.new ≡ started self.old }
+        ensures joined { joined self.new ≡ joined self.old }
         ensures carried { carried self.new ≡ carried self.old };
 
     /// Whether it keeps a job for which no thread could be made, to be run when it is joined. Where it doesn't, the
@@ -38,18 +42,21 @@ pub trait Spawner<J: Job> {
         ensures cause { IsFalse result → Rose (faults self.old) (faults self.new) }
         ensures faults { faults self.old ≤ faults self.new }
         ensures started { started self.new ≡ started self.old }
+        ensures joined { joined self.new ≡ joined self.old }
         ensures carried { carried self.new ≡ carried self.old };
 
     /// Counts a job that was started.
     fn count_start(&mut self)
         ensures faults { faults self.new ≡ faults self.old }
         ensures started { Raised (started self.old) (started self.new) 1 }
+        ensures joined { joined self.new ≡ joined self.old }
         ensures carried { carried self.new ≡ carried self.old };
 
-    /// Counts the steps that a joined job tells of.
-    fn count_steps(&mut self, steps: u64)
+    /// Counts a job that was joined, and the steps that it tells of.
+    fn count_join(&mut self, steps: u64)
         ensures faults { faults self.new ≡ faults self.old }
         ensures started { started self.new ≡ started self.old }
+        ensures joined { Raised (joined self.old) (joined self.new) 1 }
         ensures carried { Raised (carried self.old) (carried self.new) steps };
 
     /// Starts a job, which must be fit to run.
@@ -68,6 +75,7 @@ pub trait Spawner<J: Job> {
         ensures refused { OnErr result (Rose (faults self.old) (faults self.new)) }
         ensures faults { faults self.old ≤ faults self.new }
         ensures started { CountsStart result (started self.old) (started self.new) }
+        ensures joined { joined self.new ≡ joined self.old }
         ensures carried { carried self.new ≡ carried self.old }
     {
         if self.refuses() {
@@ -89,16 +97,18 @@ pub trait Spawner<J: Job> {
     /// Waits until the job has ended, and gives its outcome. A job that was kept is run here, so the caller owes again
     /// that it is fit to run.
     ///
-    /// The outcome is one that the job may give. The count of carried steps rose by the steps that it tells of.
+    /// The outcome is one that the job may give. The count of joined jobs rose by one, and that of carried steps by the
+    /// steps that the outcome tells of.
     final fn join<R: Threads + Wait>(&mut self, rt: &R, running: Running<J>) -> J::Out
         requires needs { J.needs (job_of running) }
         ensures gives { J.gives (job_of running) result }
         ensures faults { faults self.new ≡ faults self.old }
         ensures started { started self.new ≡ started self.old }
+        ensures joined { Raised (joined self.old) (joined self.new) 1 }
         ensures carried { Raised (carried self.old) (carried self.new) (J.steps_of result) }
     {
         let out = end(rt, running);
-        self.count_steps(J::steps(&out));
+        self.count_join(J::steps(&out));
         out
     }
 }

@@ -9,6 +9,7 @@ use std::alloc::Global;
 pub struct Sure {
     alloc: Global,
     pub(crate) started: u64,
+    pub(crate) joined: u64,
     pub(crate) carried: u64,
 }
 
@@ -16,11 +17,13 @@ impl Sure {
     /// A spawner that has started nothing.
     pub fn new(alloc: Global) -> Sure
         ensures started { result.started ≡ 0 }
+        ensures joined { result.joined ≡ 0 }
         ensures carried { result.carried ≡ 0 }
     {
         Sure {
             alloc,
             started: 0,
+            joined: 0,
             carried: 0,
         }
     }
@@ -30,6 +33,8 @@ impl<J: Job> Spawner<J> for Sure {
     ghost faults = { λ _. 0 };
 
     ghost started = { λ s. s.started };
+
+    ghost joined = { λ s. s.joined };
 
     ghost carried = { λ s. s.carried };
 
@@ -49,7 +54,8 @@ impl<J: Job> Spawner<J> for Sure {
         self.started = self.started.saturating_add(1);
     }
 
-    fn count_steps(&mut self, steps: u64) {
+    fn count_join(&mut self, steps: u64) {
+        self.joined = self.joined.saturating_add(1);
         self.carried = self.carried.saturating_add(steps);
     }
 }

@@ -3,8 +3,6 @@
 //! - [`Thread`] is a thread with its number; [`Thread::start`] starts it, and [`Thread::join`] waits for its end.
 #![tactic(auto)]
 
-#[cfg(test)]
-mod tests;
 mod thread;
 
 pub use thread::Thread;

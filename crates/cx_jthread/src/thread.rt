@@ -38,6 +38,7 @@ impl<J: Job> Thread<J> {
         ensures refused { OnErr result (Rose (P.faults spawner.old) (P.faults spawner.new)) }
         ensures faults { P.faults spawner.old ≤ P.faults spawner.new }
         ensures started { CountsStart result (P.started spawner.old) (P.started spawner.new) }
+        ensures joins { P.joined spawner.new ≡ P.joined spawner.old }
         ensures carried { P.carried spawner.new ≡ P.carried spawner.old }
     {
         match spawner.start(rt, job) {
@@ -83,6 +84,7 @@ impl<J: Job> Thread<J> {
         ensures spent { OnOk result (job_to_join self.new ≡ None) }
         ensures number { self.new.number ≡ self.old.number }
         ensures refused { OnErr result ((self.new ≡ self.old) × (spawner.new ≡ spawner.old)) }
+        ensures joins { OnOk result (Raised (P.joined spawner.old) (P.joined spawner.new) 1) }
         ensures carried { IfOk result (λ out. Raised (P.carried spawner.old) (P.carried spawner.new) (J.steps_of out)) }
         ensures started { P.started spawner.new ≡ P.started spawner.old }
         ensures faults { P.faults spawner.new ≡ P.faults spawner.old }

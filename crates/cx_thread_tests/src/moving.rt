@@ -1,4 +1,4 @@
-use super::*;
+use cx_io::{Buffer, Bytes, ReadFail, StdIn, StdOut, SureBuffer, SureBytes, read_all, write_all};
 use std::test::Fail;
 
 const TEXT: &[u8] = b"twenty bytes of text";

@@ -1,7 +1,7 @@
 ghost use Rattle.std.specs.Prelude.{◌≡◌, ◌<◌, ◌+◌, ◌-◌, ◌^◌};
 
-use super::*;
 use cx_io::{Job, Listed, Real, Sure};
+use cx_jthread::Thread;
 use cx_names::{Errc, ThreadNo};
 use std::sync::Wait;
 use std::test::Fail;
