@@ -19,6 +19,3 @@ mod verdicts;
 pub use by_object::{Change, Changes};
 pub use checking::{Verdict, check_record};
 pub use history::History;
-
-#[cfg(test)]
-mod tests;

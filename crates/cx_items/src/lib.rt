@@ -18,6 +18,3 @@ pub use form::{Form, Forms, Wanted};
 pub use item::{Control, Item};
 pub use local::Local;
 pub use task::{StopWait, Task};
-
-#[cfg(test)]
-mod tests;

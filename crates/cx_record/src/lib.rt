@@ -15,8 +15,6 @@ mod printing;
 mod reader;
 mod roster;
 mod rows;
-#[cfg(test)]
-mod tests;
 mod types;
 mod values;
 

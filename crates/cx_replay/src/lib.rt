@@ -9,8 +9,6 @@ mod objects;
 mod of_scenario;
 mod outcome;
 mod runner;
-#[cfg(test)]
-mod tests;
 mod turning;
 
 ghost use Rattle.std.specs.Prelude.{◌≡◌, [], ◌∷◌, Some, None};

@@ -7,8 +7,6 @@ mod item;
 mod line;
 mod reading;
 mod row;
-#[cfg(test)]
-mod tests;
 mod value;
 mod words;
 mod writing;
