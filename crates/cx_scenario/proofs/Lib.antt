@@ -10,3 +10,4 @@ pub mod Going
 pub mod Ending
 pub mod Canonical
 pub mod Fronts
+pub mod Makings

@@ -14,6 +14,7 @@ mod finishing;
 mod front;
 mod groups;
 mod kept;
+mod making;
 mod names;
 mod numbering;
 mod once;
@@ -25,9 +26,8 @@ mod roll;
 mod said;
 mod scenario;
 mod takings;
-#[cfg(test)]
-mod tests;
 mod writing;
 
+pub use making::make;
 pub use reading::ReadErr;
 pub use scenario::{Scenario, read, read_part};

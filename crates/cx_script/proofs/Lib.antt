@@ -33,3 +33,6 @@ pub mod Ordered
 pub mod WrittenRead
 pub mod WrittenFront
 pub mod FrontLength
+pub mod LinesBack
+pub mod OrderFine
+pub mod OrderSays

@@ -14,6 +14,7 @@ use Rattle.cx_script.specs.declared.declared.Declared.{Declared}
 use Rattle.cx_script.specs.declared.declared.Declared.TheVariants as declared
 use Rattle.cx_script.specs.Earlier.{made_of}
 use Rattle.cx_script.specs.Script.{Declaration, is_thread, makes_of}
+pub use Rattle.cx_script.specs.InOrder.{AreOthers, BlocksApart}
 use Rattle.cx_script.proofs.Calls.{AreApart}
 use Rattle.cx_script.proofs.Sound.{AreFine}
 use Rattle.cx_script.proofs.Shape.{Block, block_lines, body_line, main_line, end_line, main_lines, AreCalls}
@@ -102,14 +103,6 @@ kept_threads (d ∷ ds) = kept (is_thread d) refl (kept_threads ds)
     kept : (b : Bool) → is_thread d ≡ b → AllByRecursion (λ (x : Declaration). is_thread x ≡ true) (filter is_thread ds) → AllByRecursion (λ (x : Declaration). is_thread x ≡ true) (cond b (d ∷ filter is_thread ds) (filter is_thread ds))
     kept true h later = (h, later)
     kept false h later = later
-
--- each body has another name than the later ones
-abbrev pub AreOthers : List ℕ → List Block → Type 0
-AreOthers n bs = AllByRecursion (λ (b : Block). bytes_eq n b.name ≡ false) bs
-
-abbrev pub BlocksApart : List Block → Type 0
-BlocksApart [] = Unit {0}
-BlocksApart (b ∷ bs) = AreOthers b.name bs × BlocksApart bs
 
 others_of : (ls : List Filled) (n : List ℕ) (ds : List Declaration) → AllByRecursion (λ (d : Declaration). bytes_eq n d.name ≡ false) ds → AreOthers n (blocks_for ls ds)
 others_of ls n [] h = tt

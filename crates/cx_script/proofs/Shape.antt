@@ -14,19 +14,11 @@ use Rattle.std.specs.Str.{bytes_eq}
 use Rattle.std.proofs.lemmas.Slice.Eq.{bytes_eq-Decides}
 use Rattle.cx_script.specs.Earlier.{Part, AVersion, ADeclaration, ABody, AMain, ACall, AnEnd, part_of, Place, Opening, Declaring, Between, Inside, Over, place_after, may_stand, is_main, is_call}
 use Rattle.cx_script.specs.Script.{line, version_line}
+pub use Rattle.cx_script.specs.InOrder.{AreDeclarations, Block, block_lines, body_line, end_line, main_line, main_lines}
 use Rattle.cx_script.proofs.Sound.{IsFine, AreFine}
 use Rattle.cx_script.proofs.Steps.{last_more, any_more}
 
 -- ---- lines by their parts
-
-abbrev pub end_line : Filled
-end_line = line forms.End []
-
-abbrev pub main_line : Filled
-main_line = line forms.Main []
-
-abbrev pub body_line : List ℕ → Filled
-body_line name = line forms.Body (AWord name ∷ [])
 
 ends_at : (version : ℕ) (own : List ℕ) (f : Form) (vs : List Value) → FitFields version own (spread (fields_of f) (length vs)) vs → part_of f ≡ AnEnd → line f vs ≡ end_line
 ends_at version own forms.End [] h e = refl
@@ -116,19 +108,8 @@ part_call l h = rw h refl
 
 -- ---- bodies
 
--- a body: the thread's name, and its calls
-pub record Block : Type 0 where
-  pub name : List ℕ
-  pub calls : List Filled
-
-abbrev pub block_lines : Block → List Filled
-block_lines b = body_line b.name ∷ b.calls ++ end_line ∷ []
-
 abbrev pub AreCalls : List Filled → Type 0
 AreCalls ls = AllByRecursion (λ (l : Filled). is_call l ≡ true) ls
-
-abbrev pub main_lines : List Filled → List Filled
-main_lines mains = main_line ∷ mains ++ end_line ∷ []
 
 -- the bodies, and that of main
 pub record Bodies (ls : List Filled) : Type 0 where
@@ -261,9 +242,6 @@ split version (l ∷ ls) =
     )
 
 -- ---- the whole text
-
-abbrev pub AreDeclarations : List Filled → Type 0
-AreDeclarations ls = AllByRecursion (λ (l : Filled). part_of l.form ≡ ADeclaration) ls
 
 -- declarations, then bodies
 pub record Declared (ls : List Filled) : Type 0 where

@@ -109,7 +109,7 @@ canonical_all (l ∷ ls) h = ((is_canonical l h.0).0, canonical_all ls h.1)
 
 -- ---- the text
 
-shown_text : (ls : List Filled) → flat_map shown ls ≡ text_of (map words_for ls)
+pub shown_text : (ls : List Filled) → flat_map shown ls ≡ text_of (map words_for ls)
 unfolding shown
 shown_text [] = refl
 shown_text (l ∷ ls) = ap (λ (t : List ℕ). line_text (words_for l) ++ t) (shown_text ls)

@@ -5,3 +5,4 @@ pub mod Script
 pub mod Numbered
 pub mod Laws
 pub mod WellFormed
+pub mod InOrder

@@ -9,6 +9,7 @@
 mod declared;
 
 ghost use Rattle.cx_script.specs.Laws.{FirstFaultIsLeast, NoFaultIsClean, WalkFindsFirst, WrittenFrontIsOne, WrittenIsFront, WrittenIsRead, WrittenIsShort, WrittenMeansOne, WrittenSaysAgain};
+ghost use Rattle.cx_script.specs.InOrder.{InOrderIsScenario};
 ghost use Rattle.cx_script.specs.WellFormed.{ScriptIsScene};
 
 pub use declared::Declared;
@@ -61,4 +62,10 @@ pub fn written_is_front()
 /// Where such a text is cut so that the front has the scenario's lines and the rest its own, the front is the canonical text to the byte.
 pub fn written_front_is_one()
     ensures { WrittenFrontIsOne }
+{}
+
+/// Lines in the order of a canonical text, whose declarations have no fault and whose calls fit them, are a scenario: the text of the
+/// lines means what they say, which is the declarations and the calls of each body.
+pub fn in_order_is_scenario()
+    ensures { InOrderIsScenario }
 {}
