@@ -165,7 +165,7 @@ one_join_more s first last t f g g' k xs u p new m took =
 
 -- ---- the end
 
-pub runs_end : (s : Scene) (r : Recorded) (first last : ℕ → Fronts) (F : Fronts) → Path s first last 0 nothing (list_of r 0) F → any_starts 0 (list_of r 0) ≡ false → any_joins 0 (list_of r 0) ≡ false → ((o : ℕ) (d : Object) → slice_get s.objects o ≡ Some d → IsLegal (kind_of d) (F o)) → ((t : ℕ) → t ≢ 0 → Finished s t (list_of r t) (first t) (last t) F) → FromPasses s r
+unfoldable pub runs_end : (s : Scene) (r : Recorded) (first last : ℕ → Fronts) (F : Fronts) → Path s first last 0 nothing (list_of r 0) F → any_starts 0 (list_of r 0) ≡ false → any_joins 0 (list_of r 0) ≡ false → ((o : ℕ) (d : Object) → slice_get s.objects o ≡ Some d → IsLegal (kind_of d) (F o)) → ((t : ℕ) → t ≢ 0 → Finished s t (list_of r t) (first t) (last t) F) → FromPasses s r
 runs_end s r first last F p no_start no_join legal_ others = record {
   first = with_thread first 0 nothing;
   last = with_thread last 0 F;

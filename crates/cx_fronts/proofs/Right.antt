@@ -83,10 +83,7 @@ others_dont_complete s r o p h = go (slice_get s.objects o) h
     go (Some d) k = and_false (no_gap_from 0 (filter (λ c. nat_le c.position p) (in_order (changes_of r o)))) (is_completing (run (opening (kind_of d)) (entries (filter (λ c. nat_le c.position p) (in_order (changes_of r o)))))) (none_completing (opening (kind_of d)) (entries (filter (λ c. nat_le c.position p) (in_order (changes_of r o)))) (opens_other d k))
 
 pub records_agree : (s : Scene) (r : Recorded) (given : FromPasses s r) (t : ℕ) → AgreesWith s (given.last t) (completes s r)
-records_agree s r given t = record {
-  seen = λ o p d there low. completions_are_seen s r given o p d (given.last t o) there ((given.taken t).grows o) low;
-  barriers = others_dont_complete s r;
-}
+records_agree s r given t o p d there low = completions_are_seen s r given o p d (given.last t o) there ((given.taken t).grows o) low
 
 -- ---- looks are by their thread
 

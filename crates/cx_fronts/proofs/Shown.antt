@@ -85,28 +85,28 @@ passes = runs_end scene recorded firsts lasts all main_path refl refl legal_ fin
 
 -- ---- the texts
 
-main_whole : (f : Fronts) → IsWholeBy scene 0 f main_list
-main_whole f c agrees =
+main_whole : IsWholeBy scene 0 all main_list
+main_whole c agrees =
     subst
     (λ b. IsTrue (is_whole (option_and_then (λ k. option_and_then (λ l. option_and_then (λ m. after_items scene c 0 m (ok ∷ items.Control (controls.Join the_thread) ∷ ok ∷ [])) (moved scene b 0 l (items.Change the_semaphore 0 released))) (after_item scene c 0 k ok)) (after_item scene c 0 (local_at_start scene 0) (items.Control (controls.Start the_thread true))))))
-    (sym (agrees.barriers 0 0 refl))
+    (sym (agrees 0 0 (objects.Semaphore 0 2) refl (omega arith)))
     refl
 
-thread_whole : (f : Fronts) → IsWholeBy scene 1 f thread_list
-thread_whole f c agrees =
+thread_whole : IsWholeBy scene 1 all thread_list
+thread_whole c agrees =
     subst
     (λ b. IsTrue (is_whole (option_and_then (λ k. after_items scene c 1 k (ok ∷ [])) (moved scene b 1 (local_at_start scene 1) (items.Change the_semaphore 1 acquired)))))
-    (sym (agrees.barriers 0 1 refl))
+    (sym (agrees 0 1 (objects.Semaphore 0 2) refl (omega arith)))
     refl
 
-texts_ : (last : ℕ → Fronts) (t : ℕ) (l : Option (List Item)) → slice_get recorded.lists t ≡ Some l → KeepsText scene recorded t (last t) l
-texts_ last zero l there =
+texts_ : (last : ℕ → Fronts) → last 0 ≡ all → last 1 ≡ all → (t : ℕ) (l : Option (List Item)) → slice_get recorded.lists t ≡ Some l → KeepsText scene recorded t (last t) l
+texts_ last main_is thread_is zero l there =
     let same : Some main_list ≡ l = cc in
-    subst (λ v. KeepsText scene recorded 0 (last 0) v) same (refl, main_whole (last 0))
-texts_ last (suc zero) l there =
+    subst (λ v. KeepsText scene recorded 0 (last 0) v) same (refl, subst (λ f. IsWholeBy scene 0 f main_list) (sym main_is) main_whole)
+texts_ last main_is thread_is (suc zero) l there =
     let same : Some thread_list ≡ l = cc in
-    subst (λ v. KeepsText scene recorded 1 (last 1) v) same (refl, thread_whole (last 1))
-texts_ last (suc (suc t)) l there = cc there
+    subst (λ v. KeepsText scene recorded 1 (last 1) v) same (refl, subst (λ f. IsWholeBy scene 1 f thread_list) (sym thread_is) thread_whole)
+texts_ last main_is thread_is (suc (suc t)) l there = cc there
 
 formed_ : (t : ℕ) → AreItems scene t (list_of recorded t)
 formed_ zero =
@@ -120,4 +120,5 @@ formed_ (suc zero) = items_first scene 1 (items.Change the_semaphore 1 acquired)
 formed_ (suc (suc t)) = items_none scene (suc (suc t))
 
 pub example : FromRun scene recorded
-example = record { passes = passes; version = refl; count = refl; texts = texts_ passes.last; formed = formed_ }
+unfolding passes runs_end
+example = record { passes = passes; version = refl; count = refl; texts = texts_ passes.last refl refl; formed = formed_ }

@@ -40,9 +40,8 @@ abbrev pub OnlyBarriersComplete : Scene → (ℕ → ℕ → Bool) → Type 0
 OnlyBarriersComplete s leaves_completing = (o p : ℕ) → is_barrier (slice_get s.objects o) ≡ false → leaves_completing o p ≡ false
 
 -- of the changes in these fronts it says what the state after them is
-pub record AgreesWith (s : Scene) (f : Fronts) (leaves_completing : ℕ → ℕ → Bool) : Type 0 where
-  pub seen : (o p : ℕ) (d : Object) → slice_get s.objects o ≡ Some d → p < length (f o) → leaves_completing o p ≡ is_completing (after (kind_of d) (f o) (p + 1))
-  pub barriers : OnlyBarriersComplete s leaves_completing
+abbrev pub AgreesWith : Scene → Fronts → (ℕ → ℕ → Bool) → Type 0
+AgreesWith s f leaves_completing = (o p : ℕ) (d : Object) → slice_get s.objects o ≡ Some d → p < length (f o) → leaves_completing o p ≡ is_completing (after (kind_of d) (f o) (p + 1))
 
 -- ---- a thread's text
 

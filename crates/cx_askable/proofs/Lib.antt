@@ -1,0 +1,6 @@
+pub mod Calls
+pub mod Lines
+pub mod Totals
+pub mod Latches
+pub mod Starts
+pub mod Askable
