@@ -7,24 +7,25 @@ use Rattle.cx_names.specs.declared.ThreadNo.{ThreadNo}
 use Rattle.cx_scene.specs.Scene.{Scene}
 use Rattle.cx_fronts.specs.Paths.{nothing}
 use Rattle.cx_fronts.proofs.Heart.{stays}
+use Rattle.cx_machine.specs.Machine.{State}
+use Rattle.cx_turn.specs.declared.view.View.{View}
+use Rattle.cx_kinds.specs.declared.access.Access.{Access}
+use Rattle.cx_kinds.specs.Accesses.{RunObject, Knows}
 use Rattle.cx_work.specs.declared.objects.Objects.{Objects}
-use Rattle.cx_work.specs.declared.objects.RunObject.{RunObject}
-use Rattle.cx_work.specs.declared.objects.RunObject.TheVariants as mades
 use Rattle.cx_work.specs.declared.standing.Standing.{Standing}
-use Rattle.cx_work.specs.declared.token.Token.{Token}
-use Rattle.cx_work.specs.declared.token.Token.TheVariants as tokens
 use Rattle.cx_work.specs.declared.work.Work.{Work}
-use Rattle.cx_work.specs.Bodies.{Needs, scene_in, all_in}
-use Rattle.cx_work.specs.RunNow.{IsRunNow, IsNewToken, AreNew, AreAllNew}
+use Rattle.cx_work.specs.Accesses.{AreMadeAs, AreAccesses, objects_of}
+use Rattle.cx_work.specs.Bodies.{Needs, scene_in}
+use Rattle.cx_work.specs.RunNow.{IsRunNow, IsNewAccess, AreNew, AreAllNew}
 use Rattle.cx_work.specs.Steps.{IsAt}
-use Rattle.cx_work.specs.Tokens.{AreMadeAs, AreTokens}
-use Rattle.cx_work.proofs.Newness.{new_are_tokens, new_show_nothing}
+use Rattle.cx_work.proofs.Going.{same_view}
+use Rattle.cx_work.proofs.Newness.{new_are_accesses, new_show_nothing, new_objects}
 use Rattle.cx_run.specs.declared.place.Place.{Place}
 use Rattle.cx_run.specs.declared.place.Place.TheVariants as places
-use Rattle.cx_run.specs.Handing.{splits_of}
+use Rattle.cx_run.specs.Handing.{IsSplit}
 use Rattle.cx_run.specs.Runs.{IsReady, IsPlace, RunOf, MayRun, IsRun, steps_at, steps_in}
+use Rattle.cx_run.proofs.Accesses.{at_same}
 use Rattle.cx_run.proofs.Passed.{read_at, IsTurn}
-use Rattle.cx_run.proofs.Tokens.{at_same}
 
 -- ---- who waits
 
@@ -58,34 +59,30 @@ module _ {G : Type 0} (s : Scene) (xs : List RunObject) where
       go (r ∷ ps) P old last zero q h = old 0 q h
       go (r ∷ ps) P old last (suc i) q h = go ps (λ j. P (suc j)) (λ j. old (suc j)) last i q h
 
--- ---- new tokens
+-- ---- new accesses
 
-new_splits : (x : RunObject) (seats t left splits : ℕ) (k : Token) → IsNewToken x seats t left splits k → splits_of k ≡ splits
-new_splits (mades.Mutex m) seats t left splits (tokens.Mutex k) new = sym new.2.1.splits ∙ new.2.2.split
-new_splits (mades.Recursive m) seats t left splits (tokens.Recursive k) new = sym new.2.1.splits ∙ new.2.2.split
-new_splits (mades.Semaphore q) seats t left splits (tokens.Semaphore p) new = sym new.1.splits ∙ new.2.split
-new_splits (mades.Latch l) seats t left splits (tokens.Latch p) new = sym new.1.splits ∙ new.2.split
-new_splits x seats t left splits k new = absurd new
+new_split : (x : RunObject) (seats t left splits : ℕ) (k : Access) → IsNewAccess x seats t left splits k → IsSplit k splits
+new_split x seats t left splits k new v knows = sym (ap (λ (u : View State). u.splits) (same_view k new.view v new.seen knows)) ∙ new.new.split
 
 -- ---- the work of a thread
 
-pub ready_of : {G : Type 0} (s : Scene) (xs : List RunObject) (seats left splits i : ℕ) (shared : Objects) (thread : ThreadNo) (ks : Vec Token) (w : Work G) → scene_in shared ≡ s → all_in shared ≡ xs → thread.0 ≡ suc i → AreNew xs seats (suc i) left splits ks.items → Needs w → (w.objects ≡ shared) × (w.standing.thread ≡ thread) × (w.standing.tokens ≡ ks) → IsReady s xs (suc i) w
-ready_of s xs seats left splits i shared thread ks w a b c new needs parts = record {
+pub ready_of : {G : Type 0} (s : Scene) (xs : List RunObject) (seats left splits i : ℕ) (shared : Objects) (thread : ThreadNo) (ks : Vec Access) (w : Work G) → scene_in shared ≡ s → thread.0 ≡ suc i → AreNew xs seats (suc i) left splits ks.items → Needs w → (w.objects ≡ shared) × (w.standing.thread ≡ thread) × (w.standing.accesses ≡ ks) → IsReady s xs (suc i) w
+ready_of s xs seats left splits i shared thread ks w a c new needs parts = record {
   number = ap (λ (t : ThreadNo). t.0) parts.1 ∙ c;
   scene = ap scene_in parts.0 ∙ a;
-  objects = ap all_in parts.0 ∙ b;
+  objects = ap (λ (v : Vec Access). objects_of v.items) parts.2 ∙ new_objects xs seats (suc i) left splits ks.items new;
   needs = needs;
   h = nothing;
-  shown = new_show_nothing xs seats (suc i) left splits w.standing.tokens.items (subst (λ (v : Vec Token). AreNew xs seats (suc i) left splits v.items) (sym parts.2) new);
+  shown = new_show_nothing xs seats (suc i) left splits w.standing.accesses.items (subst (λ (v : Vec Access). AreNew xs seats (suc i) left splits v.items) (sym parts.2) new);
   fresh = λ o. refl;
 }
 
 -- ---- the run
 
-pub goes_first : {G : Type 0} (s : Scene) (xs : List RunObject) (seats left splits : ℕ) (ks : List Token) (others : List (Place G)) → AreNew xs seats 0 left splits ks → splits ≡ length others → suc (length others) ≡ length s.threads → AllWait s xs (length others) others → RunOf s xs [] ks others
+pub goes_first : {G : Type 0} (s : Scene) (xs : List RunObject) (seats left splits : ℕ) (ks : List Access) (others : List (Place G)) → AreNew xs seats 0 left splits ks → splits ≡ length others → suc (length others) ≡ length s.threads → AllWait s xs (length others) others → RunOf s xs [] ks others
 goes_first {G} s xs seats left splits ks others new split count wait = record {
   count = count;
-  splits = λ o k at_k. let x = at_same ks xs o k new.count at_k in new_splits x.0 seats 0 left splits k (new.each o x.0 k x.1 at_k) ∙ split;
+  splits = λ o k at_k. let x = at_same ks xs o k new.count at_k in λ v knows. new_split x.0 seats 0 left splits k (new.each o x.0 k x.1 at_k) v knows ∙ split;
   first = λ u. nothing;
   last = λ u. nothing;
   lists = λ u. [];
@@ -124,7 +121,7 @@ no_steps_first {G} s xs n others wait = go others (λ i p at_p. none_of (suc i) 
     go [] each = refl
     go (p ∷ ps) each = let rest = go ps (λ i. each (suc i)) in let first = each 0 p refl in omega (arith, rest, first)
 
--- ---- rows of tokens
+-- ---- rows of accesses
 
 pub some_left : (b : Bool) (n : ℕ) → b ≡ (n == 0) → b ≡ false → 0 < n
 some_left b n is none_ = let ne = eqb-false n 0 (sym is ∙ none_) in omega (arith, ne)
@@ -136,27 +133,36 @@ pub after_first : {A : Type 0} (ys : List A) (i : ℕ) (y : A) → slice_get (re
 after_first [] i y h = h
 after_first (x ∷ ys) i y h = h
 
--- the tokens of a thread other than main
-pub row_new : (xs : List RunObject) (threads : ℕ) (rows rest : List (Vec Token)) (n i : ℕ) (ks : Vec Token) → AreAllNew xs threads rows → rest ≡ remove rows 0 → IsTurn rest n i ks → AreNew xs threads (suc n) 131072 0 ks.items
-row_new xs threads rows rest n i ks new is turn = new.others (suc n) ks (omega arith) (after_first rows n ks (subst (λ (l : List (Vec Token)). slice_get l n ≡ Some ks) is turn.there))
+-- the accesses of a thread other than main
+pub row_new : (xs : List RunObject) (threads : ℕ) (rows rest : List (Vec Access)) (n i : ℕ) (ks : Vec Access) → AreAllNew xs threads rows → rest ≡ remove rows 0 → IsTurn rest n i ks → AreNew xs threads (suc n) 131072 0 ks.items
+row_new xs threads rows rest n i ks new is turn = new.others (suc n) ks (omega arith) (after_first rows n ks (subst (λ (l : List (Vec Access)). slice_get l n ≡ Some ks) is turn.there))
 
-pub row_tokens : (os xs : List RunObject) (threads : ℕ) (rows rest : List (Vec Token)) (n i t : ℕ) (ks : Vec Token) → AreAllNew xs threads rows → rest ≡ remove rows 0 → IsTurn rest n i ks → os ≡ xs → t ≡ i + 1 → AreTokens os t ks.items
-row_tokens os xs threads rows rest n i t ks new is turn is_os is_t =
+-- are its own
+pub row_accesses : (xs : List RunObject) (threads : ℕ) (rows rest : List (Vec Access)) (n i t : ℕ) (ks : Vec Access) → AreAllNew xs threads rows → rest ≡ remove rows 0 → IsTurn rest n i ks → t ≡ i + 1 → AreAccesses (objects_of ks.items) t ks.items
+row_accesses xs threads rows rest n i t ks new is turn is_t =
     let number = turn.number in
     let same : t ≡ suc n = omega (arith, number, is_t) in
-    rw (is_os, same) (new_are_tokens xs threads (suc n) 131072 0 ks.items (row_new xs threads rows rest n i ks new is turn))
+    let row = row_new xs threads rows rest n i ks new is turn in
+    let is_xs = new_objects xs threads (suc n) 131072 0 ks.items row in
+    rw (is_xs, same) (new_are_accesses xs threads (suc n) 131072 0 ks.items row)
+
+-- and open as they are declared
+pub row_made : (s : Scene) (xs : List RunObject) (threads : ℕ) (rows rest : List (Vec Access)) (n i : ℕ) (ks : Vec Access) → AreAllNew xs threads rows → rest ≡ remove rows 0 → IsTurn rest n i ks → AreMadeAs s.objects xs → AreMadeAs s.objects (objects_of ks.items)
+row_made s xs threads rows rest n i ks new is turn made =
+    let is_xs = new_objects xs threads (suc n) 131072 0 ks.items (row_new xs threads rows rest n i ks new is turn) in
+    rw is_xs made
 
 module _ {G : Type 0} where
   -- one more thread waits
-  pub row_waits : (s : Scene) (xs : List RunObject) (threads : ℕ) (rows rest : List (Vec Token)) (n m i : ℕ) (ks : Vec Token) (shared : Objects) (t : ThreadNo) (w : Work G) (ps ps' : List (Place G)) → AreAllNew xs threads rows → rest ≡ remove rows 0 → IsTurn rest n i ks → scene_in shared ≡ s → all_in shared ≡ xs → t.0 ≡ i + 1 → Needs w → (w.objects ≡ shared) × (w.standing.thread ≡ t) × (w.standing.tokens ≡ ks) → AllWait s xs n ps → m ≡ n + 1 → ps' ≡ ps ++ places.Waiting w ∷ [] → AllWait s xs m ps'
-  row_waits s xs threads rows rest n m i ks shared t w ps ps' new is turn is_s is_xs is_t needs parts wait more grown =
+  pub row_waits : (s : Scene) (xs : List RunObject) (threads : ℕ) (rows rest : List (Vec Access)) (n m i : ℕ) (ks : Vec Access) (shared : Objects) (t : ThreadNo) (w : Work G) (ps ps' : List (Place G)) → AreAllNew xs threads rows → rest ≡ remove rows 0 → IsTurn rest n i ks → scene_in shared ≡ s → t.0 ≡ i + 1 → Needs w → (w.objects ≡ shared) × (w.standing.thread ≡ t) × (w.standing.accesses ≡ ks) → AllWait s xs n ps → m ≡ n + 1 → ps' ≡ ps ++ places.Waiting w ∷ [] → AllWait s xs m ps'
+  row_waits s xs threads rows rest n m i ks shared t w ps ps' new is turn is_s is_t needs parts wait more grown =
       let number = turn.number in
       let same : t.0 ≡ suc n = omega (arith, number, is_t) in
-      rw (more, grown) (one_more_waits s xs n ps (places.Waiting w) wait (ready_of s xs threads 131072 0 n shared t ks w is_s is_xs same (row_new xs threads rows rest n i ks new is turn) needs parts))
+      rw (more, grown) (one_more_waits s xs n ps (places.Waiting w) wait (ready_of s xs threads 131072 0 n shared t ks w is_s same (row_new xs threads rows rest n i ks new is turn) needs parts))
 
-  pub prepared : (s : Scene) (xs : List RunObject) (o : Objects) (main : Standing) (ps : Vec (Place G)) (rows : List (Vec Token)) (ks : Vec Token) (n : ℕ) → scene_in o ≡ s → all_in o ≡ xs → IsRunNow s → AreMadeAs s.objects xs → AreAllNew xs (length s.threads) rows → slice_get rows 0 ≡ Some ks → IsAt s main → main.list.items ≡ [] → main.thread.0 ≡ 0 → main.tokens ≡ ks → AllWait s xs n ps.items → suc n ≡ length rows → IsRun (record { objects = o; main = main; others = ps })
-  prepared s xs o main ps rows ks n is_s is_xs now made new at_0 at_ empty zero_ is_ks wait long =
-      let fresh : AreNew xs (length s.threads) 0 131072 (length s.threads - 1) main.tokens.items = subst (λ (v : Vec Token). AreNew xs (length s.threads) 0 131072 (length s.threads - 1) v.items) (sym is_ks) (new.main ks at_0) in
+  pub prepared : (s : Scene) (xs : List RunObject) (o : Objects) (main : Standing) (ps : Vec (Place G)) (rows : List (Vec Access)) (ks : Vec Access) (n : ℕ) → scene_in o ≡ s → IsRunNow s → AreMadeAs s.objects xs → AreAllNew xs (length s.threads) rows → slice_get rows 0 ≡ Some ks → IsAt s main → main.list.items ≡ [] → main.thread.0 ≡ 0 → main.accesses ≡ ks → AllWait s xs n ps.items → suc n ≡ length rows → IsRun xs (record { objects = o; main = main; others = ps })
+  prepared s xs o main ps rows ks n is_s now made new at_0 at_ empty zero_ is_ks wait long =
+      let fresh : AreNew xs (length s.threads) 0 131072 (length s.threads - 1) main.accesses.items = subst (λ (v : Vec Access). AreNew xs (length s.threads) 0 131072 (length s.threads - 1) v.items) (sym is_ks) (new.main ks at_0) in
       let many = wait.many in
       let rows_ = new.count in
       let split : length s.threads - 1 ≡ length ps.items = omega (arith, many, rows_, long) in
@@ -164,12 +170,12 @@ module _ {G : Type 0} where
       let wait' : AllWait s xs (length ps.items) ps.items = subst (λ m. AllWait s xs m ps.items) (sym many) wait in
       record {
         kept = record {
-          made = rw (is_s, is_xs) made;
-          tokens = rw is_xs (new_are_tokens xs (length s.threads) 0 131072 (length s.threads - 1) main.tokens.items fresh);
+          made = rw is_s made;
+          accesses = new_are_accesses xs (length s.threads) 0 131072 (length s.threads - 1) main.accesses.items fresh;
           thread = zero_;
           may_run = may_run_first s xs n ps.items wait;
         };
         runs_now = rw is_s now;
         at_ = rw is_s at_;
-        goes = rw (is_s, is_xs, empty) (goes_first s xs (length s.threads) 131072 (length s.threads - 1) main.tokens.items ps.items fresh split count wait');
+        goes = rw (is_s, empty) (goes_first s xs (length s.threads) 131072 (length s.threads - 1) main.accesses.items ps.items fresh split count wait');
       }

@@ -14,8 +14,8 @@ use Rattle.cx_fronts.proofs.Lists.{not_equal}
 use Rattle.cx_fronts.proofs.Heart.{stays, no_more}
 use Rattle.cx_fronts.proofs.Mained.{path-same}
 use Rattle.cx_fronts.proofs.Right.{runs_are_right, items_none}
-use Rattle.cx_work.specs.declared.objects.RunObject.{RunObject}
-use Rattle.cx_work.specs.declared.token.Token.{Token}
+use Rattle.cx_kinds.specs.Accesses.{RunObject}
+use Rattle.cx_kinds.specs.declared.access.Access.{Access}
 use Rattle.cx_run.specs.declared.place.Place.{Place}
 use Rattle.cx_run.specs.declared.place.Place.TheVariants as places
 use Rattle.cx_run.specs.Handing.{HaveTaken}
@@ -41,7 +41,7 @@ high [] i h = absurd (omega (arith, h))
 high (x ∷ xs) zero h = (x, refl)
 high (x ∷ xs) (suc i) h = high xs i (omega (arith, h))
 
-module _ {G : Type 0} (s : Scene) (xs : List RunObject) (list : List Item) (tokens : List Token) (others : List (Place G)) (r : RunOf s xs list tokens others) (come : (i : ℕ) (p : Place G) → slice_get others i ≡ Some p → has_come p ≡ true) (settled : AreSettled s tokens r.f (length others)) where
+module _ {G : Type 0} (s : Scene) (xs : List RunObject) (list : List Item) (accesses : List Access) (others : List (Place G)) (r : RunOf s xs list accesses others) (come : (i : ℕ) (p : Place G) → slice_get others i ≡ Some p → has_come p ≡ true) (settled : AreSettled s accesses r.f (length others)) where
   list_in : (i : ℕ) (p : Place G) → slice_get others i ≡ Some p → list_of (record_of s list others) (suc i) ≡ items_of (list_at p)
   list_in i p at = ap (λ (o : Option (Option (List Item))). items_of (option_and_then (λ l. l) o)) (list_there others i p at)
 
@@ -55,43 +55,61 @@ module _ {G : Type 0} (s : Scene) (xs : List RunObject) (list : List Item) (toke
   unmoved : (u : ℕ) (h : Fronts) → ((o : ℕ) → positions u 0 (r.f o) ≡ positions u 0 (h o)) → (o : ℕ) → positions u 0 (r.f o) ≡ positions u 0 (h o) ++ none_own o
   unmoved u h same o = same o ∙ sym (no_more (positions u 0 (h o)))
 
+  -- where a thread ended that main's list doesn't join, with the list of its whole body
+  record Closing (t : ℕ) (started joined : Bool) (ys : List Item) : Type 0 where
+    ending : Ending s t started joined ys (r.first t) r.f
+    whole : joined ≡ false → started ≡ true → IsWholeList s t ending.ended ys
+
   -- where a thread that has come ended
-  come_end : (i : ℕ) (ys : List Item) (b : Bool) → any_starts (suc i) list ≡ true → HasCome s (suc i) b (r.first (suc i)) (r.last (suc i)) (r.lists (suc i)) ys tokens r.f → Ending s (suc i) true b ys (r.first (suc i)) r.f
-  come_end i ys true started c = record { begun = r.f; ended = r.f; finished = λ ne k. cc k }
+  come_end : (i : ℕ) (ys : List Item) (b : Bool) → any_starts (suc i) list ≡ true → HasCome s (suc i) b (r.first (suc i)) (r.last (suc i)) (r.lists (suc i)) ys accesses r.f → Closing (suc i) true b ys
+  come_end i ys true started c = record { ending = record { begun = r.f; ended = r.f; finished = λ ne k. cc k }; whole = λ k. cc k }
   come_end i ys false started c = record {
-    begun = r.f;
-    ended = c.0;
-    finished = λ ne k. record { unused = r.main.clean (suc i) started; made = c.1.made; taken = record { grows = c.1.grows; mine = unmoved (suc i) c.0 (settled.gone (suc i) c.0 c.1.grows c.1.taken) } };
+    ending = record {
+      begun = r.f;
+      ended = c.0;
+      finished = λ ne k. record { unused = r.main.clean (suc i) started; made = c.1.made; taken = record { grows = c.1.grows; mine = unmoved (suc i) c.0 (settled.gone (suc i) c.0 c.1.grows c.1.taken) } };
+    };
+    whole = λ k st. c.1.list;
   }
 
-  place_end : (i : ℕ) (p : Place G) → has_come p ≡ true → IsPlace s xs r.first r.last r.lists list tokens r.f (suc i) p → Ending s (suc i) (any_starts (suc i) list) (any_joins (suc i) list) (items_of (list_at p)) (r.first (suc i)) r.f
+  place_end : (i : ℕ) (p : Place G) → has_come p ≡ true → IsPlace s xs r.first r.last r.lists list accesses r.f (suc i) p → Closing (suc i) (any_starts (suc i) list) (any_joins (suc i) list) (items_of (list_at p))
   place_end i (places.Waiting w) h q = cc h
   place_end i (places.Running thread) h q = cc h
-  place_end i (places.Ended ys) h q = subst (λ (b : Bool). Ending s (suc i) b (any_joins (suc i) list) ys.items (r.first (suc i)) r.f) (sym q.0) (come_end i ys.items (any_joins (suc i) list) q.0 q.2)
-  place_end i places.Idle h q = subst (λ (b : Bool). Ending s (suc i) b (any_joins (suc i) list) [] (r.first (suc i)) r.f) (sym q.0) (record {
-    begun = q.1.h;
-    ended = q.1.h;
-    finished = λ ne k. record { unused = q.1.fresh; made = λ firsts lasts. stays (suc i) q.1.h; taken = record { grows = q.1.grows; mine = unmoved (suc i) q.1.h (settled.gone (suc i) q.1.h q.1.grows q.1.taken) } };
+  place_end i (places.Ended ys) h q = subst (λ (b : Bool). Closing (suc i) b (any_joins (suc i) list) ys.items) (sym q.0) (come_end i ys.items (any_joins (suc i) list) q.0 q.1)
+  place_end i places.Idle h q = subst (λ (b : Bool). Closing (suc i) b (any_joins (suc i) list) []) (sym q.0) (record {
+    ending = record {
+      begun = q.1.h;
+      ended = q.1.h;
+      finished = λ ne k. record { unused = q.1.fresh; made = λ firsts lasts. stays (suc i) q.1.h; taken = record { grows = q.1.grows; mine = unmoved (suc i) q.1.h (settled.gone (suc i) q.1.h q.1.grows q.1.taken) } };
+    };
+    whole = λ k st. cc st;
   })
 
-  ending : (t : ℕ) → Ending s t (any_starts t list) (any_joins t list) (list_of (record_of s list others) t) (r.first t) r.f
-  ending zero = record { begun = r.f; ended = r.f; finished = λ ne. absurd (ne refl) }
-  ending (suc i) = go (slice_get others i) refl
+  closing : (t : ℕ) → Closing t (any_starts t list) (any_joins t list) (list_of (record_of s list others) t)
+  closing zero = record { ending = record { begun = r.f; ended = r.f; finished = λ ne. absurd (ne refl) }; whole = λ k st. let was = r.started 0 st in absurd (omega (arith, was.0)) }
+  closing (suc i) = go (slice_get others i) refl
     where
-      go : (p : Option (Place G)) → slice_get others i ≡ p → Ending s (suc i) (any_starts (suc i) list) (any_joins (suc i) list) (list_of (record_of s list others) (suc i)) (r.first (suc i)) r.f
+      go : (p : Option (Place G)) → slice_get others i ≡ p → Closing (suc i) (any_starts (suc i) list) (any_joins (suc i) list) (list_of (record_of s list others) (suc i))
       go None at =
           let far = low others i at in
-          subst (λ (ys : List Item). Ending s (suc i) (any_starts (suc i) list) (any_joins (suc i) list) ys (r.first (suc i)) r.f) (sym (empty_in i at))
-          (subst (λ (b : Bool). Ending s (suc i) b (any_joins (suc i) list) [] (r.first (suc i)) r.f) (sym (never i far (any_starts (suc i) list) refl))
-          (record { begun = r.f; ended = r.f; finished = λ ne k. record { unused = settled.above (suc i) (omega (arith, far)); made = λ firsts lasts. stays (suc i) r.f; taken = stays (suc i) r.f } }))
-      go (Some p) at = subst (λ (ys : List Item). Ending s (suc i) (any_starts (suc i) list) (any_joins (suc i) list) ys (r.first (suc i)) r.f) (sym (list_in i p at)) (place_end i p (come i p at) (r.places i p at))
+          subst (λ (ys : List Item). Closing (suc i) (any_starts (suc i) list) (any_joins (suc i) list) ys) (sym (empty_in i at))
+          (subst (λ (b : Bool). Closing (suc i) b (any_joins (suc i) list) []) (sym (never i far (any_starts (suc i) list) refl))
+          (record {
+            ending = record { begun = r.f; ended = r.f; finished = λ ne k. record { unused = settled.above (suc i) (omega (arith, far)); made = λ firsts lasts. stays (suc i) r.f; taken = stays (suc i) r.f } };
+            whole = λ k st. cc st;
+          }))
+      go (Some p) at = subst (λ (ys : List Item). Closing (suc i) (any_starts (suc i) list) (any_joins (suc i) list) ys) (sym (list_in i p at)) (place_end i p (come i p at) (r.places i p at))
+
+  ending : (t : ℕ) → Ending s t (any_starts t list) (any_joins t list) (list_of (record_of s list others) t) (r.first t) r.f
+  ending t = (closing t).ending
 
   -- main's list tells of the join of a thread that ended
   record AtJoin (i : ℕ) : Type 0 where
     ys : List Item
     list_is : list_of (record_of s list others) (suc i) ≡ ys
     kept : r.lists (suc i) ≡ ys
-    taken : HaveTaken tokens (suc i) (r.last (suc i))
+    taken : HaveTaken accesses (suc i) (r.last (suc i))
+    whole : IsWholeList s (suc i) (r.last (suc i)) ys
 
   at_join : (t : ℕ) → any_joins t list ≡ true → (i : ℕ) → t ≡ suc i → AtJoin i
   at_join t joined i is = go (high others i (omega (arith, (r.started t (r.main.started t joined)).1, is)))
@@ -102,12 +120,12 @@ module _ {G : Type 0} (s : Scene) (xs : List RunObject) (list : List Item) (toke
       started_ : any_starts (suc i) list ≡ true
       started_ = r.main.started (suc i) yes_
 
-      at_place : (p : Place G) → slice_get others i ≡ Some p → has_come p ≡ true → IsPlace s xs r.first r.last r.lists list tokens r.f (suc i) p → AtJoin i
+      at_place : (p : Place G) → slice_get others i ≡ Some p → has_come p ≡ true → IsPlace s xs r.first r.last r.lists list accesses r.f (suc i) p → AtJoin i
       at_place (places.Waiting w) at h q = cc h
       at_place (places.Running thread) at h q = cc h
       at_place (places.Ended ys) at h q =
-          let c : HasCome s (suc i) true (r.first (suc i)) (r.last (suc i)) (r.lists (suc i)) ys.items tokens r.f = subst (λ (b : Bool). HasCome s (suc i) b (r.first (suc i)) (r.last (suc i)) (r.lists (suc i)) ys.items tokens r.f) yes_ q.2 in
-          record { ys = ys.items; list_is = list_in i (places.Ended ys) at; kept = c.0; taken = c.1 }
+          let c : HasCome s (suc i) true (r.first (suc i)) (r.last (suc i)) (r.lists (suc i)) ys.items accesses r.f = subst (λ (b : Bool). HasCome s (suc i) b (r.first (suc i)) (r.last (suc i)) (r.lists (suc i)) ys.items accesses r.f) yes_ q.1 in
+          record { ys = ys.items; list_is = list_in i (places.Ended ys) at; kept = c.0; taken = c.1; whole = c.2 }
       at_place places.Idle at h q = let no_ = q.0 in cc (no_, started_)
 
       go : (p : Place G) × (slice_get others i ≡ Some p) → AtJoin i
@@ -187,26 +205,37 @@ module _ {G : Type 0} (s : Scene) (xs : List RunObject) (list : List Item) (toke
   has_it : (i : ℕ) (b : Bool) → any_starts (suc i) list ≡ b → has_started (record_of s list others) (suc i) ≡ b
   has_it i b h = let apart : (suc i == 0) ≡ false = not_equal (suc i) 0 (λ e. omega (arith, e)) in rw apart h
 
-  text_of : (last : Fronts) (i : ℕ) (p : Place G) → has_come p ≡ true → IsPlace s xs r.first r.last r.lists list tokens r.f (suc i) p → KeepsText s (record_of s list others) (suc i) last (list_at p)
-  text_of last i (places.Waiting w) h q = cc h
-  text_of last i (places.Running thread) h q = cc h
-  text_of last i (places.Ended ys) h q = (has_it i true q.0, λ c agrees. q.1.whole c agrees.barriers)
-  text_of last i places.Idle h q = has_it i false q.0
+  -- the list of a thread that was started, by what it had seen at its end
+  whole_last : (i : ℕ) (b : Bool) → any_joins (suc i) list ≡ b → any_starts (suc i) list ≡ true → IsWholeList s (suc i) (if b then r.last (suc i) else (ending (suc i)).ended) (list_of (record_of s list others) (suc i))
+  unfolding ending
+  whole_last i true joined started = let j = at_join (suc i) joined i refl in subst (λ (ys : List Item). IsWholeList s (suc i) (r.last (suc i)) ys) (sym j.list_is) j.whole
+  whole_last i false joined started = (closing (suc i)).whole joined started
 
-  formed_of : (i : ℕ) (p : Place G) → has_come p ≡ true → IsPlace s xs r.first r.last r.lists list tokens r.f (suc i) p → AreItems s (suc i) (items_of (list_at p))
-  formed_of i (places.Waiting w) h q = cc h
-  formed_of i (places.Running thread) h q = cc h
-  formed_of i (places.Ended ys) h q = q.1.formed
-  formed_of i places.Idle h q = items_none s (suc i)
+  whole_in : (i : ℕ) (ys : List Item) → list_of (record_of s list others) (suc i) ≡ ys → any_starts (suc i) list ≡ true → IsWholeList s (suc i) (lasts (suc i)) ys
+  whole_in i ys is started =
+      let apart : (suc i == 0) ≡ false = not_equal (suc i) 0 (λ e. omega (arith, e)) in
+      rw apart (subst (λ (zs : List Item). IsWholeList s (suc i) (if any_joins (suc i) list then r.last (suc i) else (ending (suc i)).ended) zs) is (whole_last i (any_joins (suc i) list) refl started))
 
-  module _ (own : IsWholeList s 0 list) where
-    text_in : (last : ℕ → Fronts) (t : ℕ) (l : Option (List Item)) → slice_get (Some list ∷ map list_at others) t ≡ Some l → KeepsText s (record_of s list others) t (last t) l
-    text_in last zero l h =
+  text_of : (i : ℕ) (p : Place G) → slice_get others i ≡ Some p → has_come p ≡ true → IsPlace s xs r.first r.last r.lists list accesses r.f (suc i) p → KeepsText s (record_of s list others) (suc i) (lasts (suc i)) (list_at p)
+  text_of i (places.Waiting w) at h q = cc h
+  text_of i (places.Running thread) at h q = cc h
+  text_of i (places.Ended ys) at h q = (has_it i true q.0, (whole_in i ys.items (list_in i (places.Ended ys) at) q.0).whole)
+  text_of i places.Idle at h q = has_it i false q.0
+
+  formed_of : (i : ℕ) (p : Place G) → slice_get others i ≡ Some p → has_come p ≡ true → IsPlace s xs r.first r.last r.lists list accesses r.f (suc i) p → AreItems s (suc i) (items_of (list_at p))
+  formed_of i (places.Waiting w) at h q = cc h
+  formed_of i (places.Running thread) at h q = cc h
+  formed_of i (places.Ended ys) at h q = (whole_in i ys.items (list_in i (places.Ended ys) at) q.0).formed
+  formed_of i places.Idle at h q = items_none s (suc i)
+
+  module _ (own : IsWholeList s 0 r.f list) where
+    text_in : (t : ℕ) (l : Option (List Item)) → slice_get (Some list ∷ map list_at others) t ≡ Some l → KeepsText s (record_of s list others) t (lasts t) l
+    text_in zero l h =
         let same : Some list ≡ l = cc in
-        subst (λ (v : Option (List Item)). KeepsText s (record_of s list others) 0 (last 0) v) same (refl, λ c agrees. own.whole c agrees.barriers)
-    text_in last (suc i) l h =
+        subst (λ (v : Option (List Item)). KeepsText s (record_of s list others) 0 (lasts 0) v) same (refl, own.whole)
+    text_in (suc i) l h =
         let p = none_there i l h in
-        subst (λ (v : Option (List Item)). KeepsText s (record_of s list others) (suc i) (last (suc i)) v) (sym p.2) (text_of (last (suc i)) i p.0 (come i p.0 p.1) (r.places i p.0 p.1))
+        subst (λ (v : Option (List Item)). KeepsText s (record_of s list others) (suc i) (lasts (suc i)) v) (sym p.2) (text_of i p.0 p.1 (come i p.0 p.1) (r.places i p.0 p.1))
 
     formed_in : (t : ℕ) → AreItems s t (list_of (record_of s list others) t)
     formed_in zero = own.formed
@@ -214,7 +243,7 @@ module _ {G : Type 0} (s : Scene) (xs : List RunObject) (list : List Item) (toke
       where
         go : (p : Option (Place G)) → slice_get others i ≡ p → AreItems s (suc i) (list_of (record_of s list others) (suc i))
         go None at = subst (λ (ys : List Item). AreItems s (suc i) ys) (sym (empty_in i at)) (items_none s (suc i))
-        go (Some p) at = subst (λ (ys : List Item). AreItems s (suc i) ys) (sym (list_in i p at)) (formed_of i p (come i p at) (r.places i p at))
+        go (Some p) at = subst (λ (ys : List Item). AreItems s (suc i) ys) (sym (list_in i p at)) (formed_of i p at (come i p at) (r.places i p at))
 
     count_in : length (Some list ∷ map list_at others) ≡ length s.threads
     count_in = ap suc (long others) ∙ r.count
@@ -226,4 +255,4 @@ module _ {G : Type 0} (s : Scene) (xs : List RunObject) (list : List Item) (toke
     -- the record of such a run is right, and main's fronts are its histories
     pub run_is_right : IsRight s (record_of s list others) r.f
     unfolding passes
-    run_is_right = runs_are_right s (record_of s list others) (record { passes = passes; version = refl; count = count_in; texts = text_in passes.last; formed = formed_in })
+    run_is_right = runs_are_right s (record_of s list others) (record { passes = passes; version = refl; count = count_in; texts = text_in; formed = formed_in })

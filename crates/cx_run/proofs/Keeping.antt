@@ -17,18 +17,18 @@ use Rattle.cx_fronts.proofs.Grown.{refusal_goes as refusal_item}
 use Rattle.cx_fronts.proofs.Mained.{main_goes, main_starts, main_joins}
 use Rattle.cx_jthread.specs.declared.thread.Thread.{Thread}
 use Rattle.cx_jthread.specs.Threads.{job_to_join}
-use Rattle.cx_work.specs.declared.objects.RunObject.{RunObject}
-use Rattle.cx_work.specs.declared.token.Token.{Token}
+use Rattle.cx_kinds.specs.Accesses.{RunObject}
+use Rattle.cx_kinds.specs.declared.access.Access.{Access}
 use Rattle.cx_work.specs.declared.work.Work.{Work}
 use Rattle.cx_work.specs.declared.work.Ended.{Ended}
 use Rattle.cx_work.specs.Bodies.{IsBody}
 use Rattle.cx_work.specs.Steps.{is_made_alone}
-use Rattle.cx_work.specs.Tokens.{AreTokens, AreShown}
+use Rattle.cx_work.specs.Accesses.{AreAccesses, AreShown}
 use Rattle.cx_run.specs.declared.place.Place.{Place}
 use Rattle.cx_run.specs.declared.place.Place.TheVariants as places
-use Rattle.cx_run.specs.Handing.{splits_of, AllAsBefore, AllMet, AllTakeIn, HaveTaken}
-use Rattle.cx_run.specs.Runs.{IsReady, IsOff, HasCome, WasIdle, IsPlace, RunOf}
-use Rattle.cx_run.proofs.Tokens.{Meets, same_shown, same_taken, same_splits, met_shown, took_shown, took_them, took_more, took_splits}
+use Rattle.cx_run.specs.Handing.{IsSplit, AllAsBefore, AllMet, AllTakeIn, HaveTaken}
+use Rattle.cx_run.specs.Runs.{IsWholeList, IsReady, IsOff, HasCome, WasIdle, IsPlace, RunOf}
+use Rattle.cx_run.proofs.Accesses.{Meets, same_shown, same_taken, same_splits, met_shown, took_shown, took_them, took_more, took_splits}
 
 -- ---- lists
 
@@ -100,30 +100,32 @@ get_set (y ∷ xs) zero x (suc j) p h = elsewhere (λ e. omega (arith, e)) h
 get_set (y ∷ xs) (suc i) x zero p h = elsewhere (λ e. omega (arith, e)) h
 get_set (y ∷ xs) (suc i) x (suc j) p h = further y xs i x j p (get_set xs i x j p h)
 
+pub split_set : (k : Access) {m n : ℕ} → m ≡ n → IsSplit k n → IsSplit k m
+split_set k e split v a = split v a ∙ sym e
+
 -- ---- the other threads stay where they were
 
-come_goes : (s : Scene) (u : ℕ) (b : Bool) (first last : Fronts) (list ys : List Item) (tokens tokens' : List Token) (f f' : Fronts) → Grows f f' → ((v : ℕ) (h : Fronts) → HaveTaken tokens v h → HaveTaken tokens' v h) → HasCome s u b first last list ys tokens f → HasCome s u b first last list ys tokens' f'
-come_goes s u true first last list ys tokens tokens' f f' grows more come = (come.0, more u last come.1)
-come_goes s u false first last list ys tokens tokens' f f' grows more come = (come.0, record { made = come.1.made; grows = λ o. prefix_trans (come.0 o) (come.1.grows o) (grows o); taken = more u come.0 come.1.taken })
+come_goes : (s : Scene) (u : ℕ) (b : Bool) (first last : Fronts) (list ys : List Item) (accesses accesses' : List Access) (f f' : Fronts) → Grows f f' → ((v : ℕ) (h : Fronts) → HaveTaken accesses v h → HaveTaken accesses' v h) → HasCome s u b first last list ys accesses f → HasCome s u b first last list ys accesses' f'
+come_goes s u true first last list ys accesses accesses' f f' grows more come = (come.0, more u last come.1, come.2)
+come_goes s u false first last list ys accesses accesses' f f' grows more come = (come.0, record { list = come.1.list; made = come.1.made; grows = λ o. prefix_trans (come.0 o) (come.1.grows o) (grows o); taken = more u come.0 come.1.taken })
 
-pub place_goes : {G : Type 0} (s : Scene) (xs : List RunObject) (first last first' last' : ℕ → Fronts) (lists lists' : ℕ → List Item) (list list' : List Item) (tokens tokens' : List Token) (f f' : Fronts) (u : ℕ) (p : Place G) → any_starts u list' ≡ any_starts u list → any_joins u list' ≡ any_joins u list → first u ≡ first' u → last u ≡ last' u → lists u ≡ lists' u → Grows f f' → ((v : ℕ) (h : Fronts) → HaveTaken tokens v h → HaveTaken tokens' v h) → IsPlace s xs first last lists list tokens f u p → IsPlace s xs first' last' lists' list' tokens' f' u p
-place_goes s xs first last first' last' lists lists' list list' tokens tokens' f f' u (places.Waiting w) a b c d e grows more p = (a ∙ p.0, p.1)
-place_goes s xs first last first' last' lists lists' list list' tokens tokens' f f' u (places.Running thread) a b c d e grows more p = (a ∙ p.0, b ∙ p.1, subst (λ (h : Fronts). IsOff s xs u h thread) c p.2)
-place_goes s xs first last first' last' lists lists' list list' tokens tokens' f f' u (places.Ended ys) a b c d e grows more p = (
+pub place_goes : {G : Type 0} (s : Scene) (xs : List RunObject) (first last first' last' : ℕ → Fronts) (lists lists' : ℕ → List Item) (list list' : List Item) (accesses accesses' : List Access) (f f' : Fronts) (u : ℕ) (p : Place G) → any_starts u list' ≡ any_starts u list → any_joins u list' ≡ any_joins u list → first u ≡ first' u → last u ≡ last' u → lists u ≡ lists' u → Grows f f' → ((v : ℕ) (h : Fronts) → HaveTaken accesses v h → HaveTaken accesses' v h) → IsPlace s xs first last lists list accesses f u p → IsPlace s xs first' last' lists' list' accesses' f' u p
+place_goes s xs first last first' last' lists lists' list list' accesses accesses' f f' u (places.Waiting w) a b c d e grows more p = (a ∙ p.0, p.1)
+place_goes s xs first last first' last' lists lists' list list' accesses accesses' f f' u (places.Running thread) a b c d e grows more p = (a ∙ p.0, b ∙ p.1, subst (λ (h : Fronts). IsOff s xs u h thread) c p.2)
+place_goes s xs first last first' last' lists lists' list list' accesses accesses' f f' u (places.Ended ys) a b c d e grows more p = (
   a ∙ p.0,
-  p.1,
-  subst (λ (j : Bool). HasCome s u j (first' u) (last' u) (lists' u) ys.items tokens' f') (sym b)
-      (subst (λ (h : Fronts). HasCome s u (any_joins u list) h (last' u) (lists' u) ys.items tokens' f') c
-      (subst (λ (h : Fronts). HasCome s u (any_joins u list) (first u) h (lists' u) ys.items tokens' f') d
-      (subst (λ (l : List Item). HasCome s u (any_joins u list) (first u) (last u) l ys.items tokens' f') e
-      (come_goes s u (any_joins u list) (first u) (last u) (lists u) ys.items tokens tokens' f f' grows more p.2)))),
+  subst (λ (j : Bool). HasCome s u j (first' u) (last' u) (lists' u) ys.items accesses' f') (sym b)
+      (subst (λ (h : Fronts). HasCome s u (any_joins u list) h (last' u) (lists' u) ys.items accesses' f') c
+      (subst (λ (h : Fronts). HasCome s u (any_joins u list) (first u) h (lists' u) ys.items accesses' f') d
+      (subst (λ (l : List Item). HasCome s u (any_joins u list) (first u) (last u) l ys.items accesses' f') e
+      (come_goes s u (any_joins u list) (first u) (last u) (lists u) ys.items accesses accesses' f f' grows more p.1)))),
 )
-place_goes s xs first last first' last' lists lists' list list' tokens tokens' f f' u places.Idle a b c d e grows more p = (a ∙ p.0, record { h = p.1.h; fresh = p.1.fresh; grows = λ o. prefix_trans (p.1.h o) (p.1.grows o) (grows o); taken = more u p.1.h p.1.taken })
+place_goes s xs first last first' last' lists lists' list list' accesses accesses' f f' u places.Idle a b c d e grows more p = (a ∙ p.0, record { h = p.1.h; fresh = p.1.fresh; grows = λ o. prefix_trans (p.1.h o) (p.1.grows o) (grows o); taken = more u p.1.h p.1.taken })
 
 -- ---- an item of main's own
 
-pub act_goes : {G : Type 0} (s : Scene) (xs : List RunObject) (list : List Item) (tokens tokens' : List Token) (others : List (Place G)) (x : Item) → RunOf s xs list tokens others → PromisesOne s 0 (AreShown xs tokens) x (AreShown xs tokens') → is_made_alone x ≡ true → ((v : ℕ) (h : Fronts) → HaveTaken tokens v h → HaveTaken tokens' v h) → ((o : ℕ) (k : Token) → slice_get tokens' o ≡ Some k → splits_of k ≡ length others) → RunOf s xs (list ++ x ∷ []) tokens' others
-act_goes s xs list tokens tokens' others x r promise alone more split =
+pub act_goes : {G : Type 0} (s : Scene) (xs : List RunObject) (list : List Item) (accesses accesses' : List Access) (others : List (Place G)) (x : Item) → RunOf s xs list accesses others → PromisesOne s 0 (AreShown accesses) x (AreShown accesses') → is_made_alone x ≡ true → ((v : ℕ) (h : Fronts) → HaveTaken accesses v h → HaveTaken accesses' v h) → ((o : ℕ) (k : Access) → slice_get accesses' o ≡ Some k → IsSplit k (length others)) → RunOf s xs (list ++ x ∷ []) accesses' others
+act_goes s xs list accesses accesses' others x r promise alone more split =
     let p = promise r.f r.shown in
     let one : Path s r.first r.last 0 r.f (x ∷ []) p.0 = (p.0, p.2 r.first r.last, stays 0 p.0) in
     record {
@@ -136,7 +138,7 @@ act_goes s xs list tokens tokens' others x r promise alone more split =
       shown = p.1;
       main = main_goes s r.first r.last r.lists list (x ∷ []) r.f p.0 r.main (λ u. no_more (starts u x) ∙ alone_starts u x alone) (λ u. no_more (joins u x) ∙ alone_joins u x alone) one;
       started = λ u h. r.started u (sym (same_starts u list x (alone_starts u x alone)) ∙ h);
-      places = λ i q at. place_goes s xs r.first r.last r.first r.last r.lists r.lists list (list ++ x ∷ []) tokens tokens' r.f p.0 (suc i) q (same_starts (suc i) list x (alone_starts (suc i) x alone)) (same_joins (suc i) list x (alone_joins (suc i) x alone)) refl refl refl (path-grows s r.first r.last 0 r.f p.0 (x ∷ []) one) more (r.places i q at);
+      places = λ i q at. place_goes s xs r.first r.last r.first r.last r.lists r.lists list (list ++ x ∷ []) accesses accesses' r.f p.0 (suc i) q (same_starts (suc i) list x (alone_starts (suc i) x alone)) (same_joins (suc i) list x (alone_joins (suc i) x alone)) refl refl refl (path-grows s r.first r.last 0 r.f p.0 (x ∷ []) one) more (r.places i q at);
     }
 
 -- ---- starts
@@ -148,15 +150,15 @@ this_first : (fs : ℕ → Fronts) (u : ℕ) (h : Fronts) → h ≡ with_thread 
 this_first fs u h = let k : (u == u) ≡ true = eq-eqb u u refl in rw k refl
 
 -- a thread that waited was started with what main has seen
-pub start_goes : {G : Type 0} (s : Scene) (xs : List RunObject) (list : List Item) (tokens tokens' theirs : List Token) (others : List (Place G)) (i : ℕ) (u : ThreadNo) (w : Work G) (thread : Thread (Work G) Ended) → u.0 ≡ suc i → RunOf s xs list tokens others → slice_get others i ≡ Some (places.Waiting w) → AreTokens xs 0 tokens → AreTokens xs (suc i) w.standing.tokens.items → AllAsBefore xs tokens tokens' → AllMet xs tokens w.standing.tokens.items theirs → ((h : Fronts) → AreShown xs theirs h → IsOff s xs (suc i) h thread) → RunOf s xs (list ++ items.Control (controls.Start u true) ∷ []) tokens' (slice_set others i (places.Running thread))
-start_goes {G} s xs list tokens tokens' theirs others i u w thread u_is r at mine yours same meets off = record {
+pub start_goes : {G : Type 0} (s : Scene) (xs : List RunObject) (list : List Item) (accesses accesses' theirs : List Access) (others : List (Place G)) (i : ℕ) (u : ThreadNo) (w : Work G) (thread : Thread (Work G) Ended) → u.0 ≡ suc i → RunOf s xs list accesses others → slice_get others i ≡ Some (places.Waiting w) → AreAccesses xs 0 accesses → AreAccesses xs (suc i) w.standing.accesses.items → AllAsBefore accesses accesses' → AllMet accesses w.standing.accesses.items theirs → ((h : Fronts) → AreShown theirs h → IsOff s xs (suc i) h thread) → RunOf s xs (list ++ items.Control (controls.Start u true) ∷ []) accesses' (slice_set others i (places.Running thread))
+start_goes {G} s xs list accesses accesses' theirs others i u w thread u_is r at mine yours same meets off = record {
   count = ap suc (length_set others i (places.Running thread)) ∙ r.count;
-  splits = λ o k at_k. same_splits xs tokens tokens' 0 (length others) mine same r.splits o k at_k ∙ sym (length_set others i (places.Running thread));
+  splits = λ o k at_k. split_set k (length_set others i (places.Running thread)) (same_splits xs accesses accesses' 0 (length others) mine same r.splits o k at_k);
   first = with_thread r.first u.0 met.g;
   last = r.last;
   lists = r.lists;
   f = r.f;
-  shown = same_shown xs tokens tokens' r.f same r.shown;
+  shown = same_shown accesses accesses' r.f same r.shown;
   main = main_starts s r.first r.last r.lists list r.f r.f met.g u r.main new (stays 0 r.f) (λ o. (met.both o).one) (λ o. subst (λ n. positions n 0 (met.g o) ≡ []) (sym u_is) ((met.both o).own ∙ ready.fresh o));
   started = λ v h. bounded v (starts_more v list (items.Control (controls.Start u true))) h;
   places = λ j q h. place_ j q (get_set others i (places.Running thread) j q h);
@@ -171,8 +173,8 @@ start_goes {G} s xs list tokens tokens' theirs others i u w thread u_is r at min
     new : any_starts u.0 list ≡ false
     new = subst (λ n. any_starts n list ≡ false) (sym u_is) waits.0
 
-    met : Meets xs theirs (suc i) r.f ready.h
-    met = met_shown xs tokens w.standing.tokens.items theirs 0 (suc i) r.f ready.h mine yours meets r.shown ready.shown
+    met : Meets theirs (suc i) r.f ready.h
+    met = met_shown xs accesses w.standing.accesses.items theirs 0 (suc i) r.f ready.h mine yours meets r.shown ready.shown
 
     low : i < length others
     low = below others i (places.Waiting w) at
@@ -190,32 +192,32 @@ start_goes {G} s xs list tokens tokens' theirs others i u w thread u_is r at min
             let same_ : u.0 ≡ v = eqb-true u.0 v j in
             (omega (arith, same_, u_is), omega (arith, same_, u_is, low, length_set others i (places.Running thread)))
 
-    place_ : (j : ℕ) (q : Place G) → Stands others i (places.Running thread) j q → IsPlace s xs (with_thread r.first u.0 met.g) r.last r.lists (list ++ items.Control (controls.Start u true) ∷ []) tokens' r.f (suc j) q
+    place_ : (j : ℕ) (q : Place G) → Stands others i (places.Running thread) j q → IsPlace s xs (with_thread r.first u.0 met.g) r.last r.lists (list ++ items.Control (controls.Start u true) ∷ []) accesses' r.f (suc j) q
     place_ j q (here at_i is) =
         let starts_ : any_starts (suc i) (list ++ items.Control (controls.Start u true) ∷ []) ≡ true = starts_more (suc i) list (items.Control (controls.Start u true)) ∙ or_one (any_starts (suc i) list) (u.0 == suc i) (eq-eqb u.0 (suc i) u_is) in
         let joins_ : any_joins (suc i) (list ++ items.Control (controls.Start u true) ∷ []) ≡ false = same_joins (suc i) list (items.Control (controls.Start u true)) refl ∙ not_joined (any_joins (suc i) list) refl in
         let first_ : met.g ≡ with_thread r.first u.0 met.g (suc i) = subst (λ n. met.g ≡ with_thread r.first u.0 met.g n) u_is (this_first r.first u.0 met.g) in
-        subst (λ n. IsPlace s xs (with_thread r.first u.0 met.g) r.last r.lists (list ++ items.Control (controls.Start u true) ∷ []) tokens' r.f (suc n) q) (sym at_i)
-        (subst (λ (z : Place G). IsPlace s xs (with_thread r.first u.0 met.g) r.last r.lists (list ++ items.Control (controls.Start u true) ∷ []) tokens' r.f (suc i) z) is
+        subst (λ n. IsPlace s xs (with_thread r.first u.0 met.g) r.last r.lists (list ++ items.Control (controls.Start u true) ∷ []) accesses' r.f (suc n) q) (sym at_i)
+        (subst (λ (z : Place G). IsPlace s xs (with_thread r.first u.0 met.g) r.last r.lists (list ++ items.Control (controls.Start u true) ∷ []) accesses' r.f (suc i) z) is
         (starts_, joins_, subst (λ (h : Fronts). IsOff s xs (suc i) h thread) first_ (off met.g met.shown)))
     place_ j q (elsewhere apart at_j) =
         let other : (u.0 == suc j) ≡ false = not_equal u.0 (suc j) (λ e. apart (omega (arith, e, u_is))) in
-        place_goes s xs r.first r.last (with_thread r.first u.0 met.g) r.last r.lists r.lists list (list ++ items.Control (controls.Start u true) ∷ []) tokens tokens' r.f r.f (suc j) q
+        place_goes s xs r.first r.last (with_thread r.first u.0 met.g) r.last r.lists r.lists list (list ++ items.Control (controls.Start u true) ∷ []) accesses accesses' r.f r.f (suc j) q
         (same_starts (suc j) list (items.Control (controls.Start u true)) other)
         (same_joins (suc j) list (items.Control (controls.Start u true)) refl)
         (other_first r.first u.0 (suc j) met.g (λ e. apart (omega (arith, e, u_is))))
-        refl refl (λ o. prefix_refl (r.f o)) (λ v h. same_taken xs tokens tokens' 0 v h mine same) (r.places j q at_j)
+        refl refl (λ o. prefix_refl (r.f o)) (λ v h. same_taken xs accesses accesses' 0 v h mine same) (r.places j q at_j)
 
 -- no thread was to be had: the thread waits on, and has seen what main has seen
-pub refusal_goes : {G : Type 0} (s : Scene) (xs : List RunObject) (list : List Item) (tokens tokens' theirs : List Token) (others : List (Place G)) (i : ℕ) (u : ThreadNo) (w w' : Work G) → RunOf s xs list tokens others → slice_get others i ≡ Some (places.Waiting w) → AreTokens xs 0 tokens → AreTokens xs (suc i) w.standing.tokens.items → AllAsBefore xs tokens tokens' → AllMet xs tokens w.standing.tokens.items theirs → ((h : Fronts) → AreShown xs theirs h → ((o : ℕ) → positions (suc i) 0 (h o) ≡ []) → IsReady s xs (suc i) w') → RunOf s xs (list ++ items.Control (controls.Start u false) ∷ []) tokens' (slice_set others i (places.Waiting w'))
-refusal_goes {G} s xs list tokens tokens' theirs others i u w w' r at mine yours same meets ready' = record {
+pub refusal_goes : {G : Type 0} (s : Scene) (xs : List RunObject) (list : List Item) (accesses accesses' theirs : List Access) (others : List (Place G)) (i : ℕ) (u : ThreadNo) (w w' : Work G) → RunOf s xs list accesses others → slice_get others i ≡ Some (places.Waiting w) → AreAccesses xs 0 accesses → AreAccesses xs (suc i) w.standing.accesses.items → AllAsBefore accesses accesses' → AllMet accesses w.standing.accesses.items theirs → ((h : Fronts) → AreShown theirs h → ((o : ℕ) → positions (suc i) 0 (h o) ≡ []) → IsReady s xs (suc i) w') → RunOf s xs (list ++ items.Control (controls.Start u false) ∷ []) accesses' (slice_set others i (places.Waiting w'))
+refusal_goes {G} s xs list accesses accesses' theirs others i u w w' r at mine yours same meets ready' = record {
   count = ap suc (length_set others i (places.Waiting w')) ∙ r.count;
-  splits = λ o k at_k. same_splits xs tokens tokens' 0 (length others) mine same r.splits o k at_k ∙ sym (length_set others i (places.Waiting w'));
+  splits = λ o k at_k. split_set k (length_set others i (places.Waiting w')) (same_splits xs accesses accesses' 0 (length others) mine same r.splits o k at_k);
   first = r.first;
   last = r.last;
   lists = r.lists;
   f = r.f;
-  shown = same_shown xs tokens tokens' r.f same r.shown;
+  shown = same_shown accesses accesses' r.f same r.shown;
   main = main_goes s r.first r.last r.lists list (items.Control (controls.Start u false) ∷ []) r.f r.f r.main (λ v. refl) (λ v. refl) (r.f, (refusal_item s r.first r.last 0 r.f u).0, stays 0 r.f);
   started = λ v h. let was = r.started v (sym (same_starts v list (items.Control (controls.Start u false)) refl) ∙ h) in (was.0, omega (arith, was.1, length_set others i (places.Waiting w')));
   places = λ j q h. place_ j q (get_set others i (places.Waiting w') j q h);
@@ -224,19 +226,19 @@ refusal_goes {G} s xs list tokens tokens' theirs others i u w w' r at mine yours
     waits : (any_starts (suc i) list ≡ false) × IsReady s xs (suc i) w
     waits = r.places i (places.Waiting w) at
 
-    met : Meets xs theirs (suc i) r.f waits.1.h
-    met = met_shown xs tokens w.standing.tokens.items theirs 0 (suc i) r.f waits.1.h mine yours meets r.shown waits.1.shown
+    met : Meets theirs (suc i) r.f waits.1.h
+    met = met_shown xs accesses w.standing.accesses.items theirs 0 (suc i) r.f waits.1.h mine yours meets r.shown waits.1.shown
 
-    place_ : (j : ℕ) (q : Place G) → Stands others i (places.Waiting w') j q → IsPlace s xs r.first r.last r.lists (list ++ items.Control (controls.Start u false) ∷ []) tokens' r.f (suc j) q
+    place_ : (j : ℕ) (q : Place G) → Stands others i (places.Waiting w') j q → IsPlace s xs r.first r.last r.lists (list ++ items.Control (controls.Start u false) ∷ []) accesses' r.f (suc j) q
     place_ j q (here at_i is) =
-        subst (λ n. IsPlace s xs r.first r.last r.lists (list ++ items.Control (controls.Start u false) ∷ []) tokens' r.f (suc n) q) (sym at_i)
-        (subst (λ (z : Place G). IsPlace s xs r.first r.last r.lists (list ++ items.Control (controls.Start u false) ∷ []) tokens' r.f (suc i) z) is
+        subst (λ n. IsPlace s xs r.first r.last r.lists (list ++ items.Control (controls.Start u false) ∷ []) accesses' r.f (suc n) q) (sym at_i)
+        (subst (λ (z : Place G). IsPlace s xs r.first r.last r.lists (list ++ items.Control (controls.Start u false) ∷ []) accesses' r.f (suc i) z) is
         (same_starts (suc i) list (items.Control (controls.Start u false)) refl ∙ waits.0, ready' met.g met.shown (λ o. (met.both o).own ∙ waits.1.fresh o)))
     place_ j q (elsewhere apart at_j) =
-        place_goes s xs r.first r.last r.first r.last r.lists r.lists list (list ++ items.Control (controls.Start u false) ∷ []) tokens tokens' r.f r.f (suc j) q
+        place_goes s xs r.first r.last r.first r.last r.lists r.lists list (list ++ items.Control (controls.Start u false) ∷ []) accesses accesses' r.f r.f (suc j) q
         (same_starts (suc j) list (items.Control (controls.Start u false)) refl)
         (same_joins (suc j) list (items.Control (controls.Start u false)) refl)
-        refl refl refl (λ o. prefix_refl (r.f o)) (λ v h. same_taken xs tokens tokens' 0 v h mine same) (r.places j q at_j)
+        refl refl refl (λ o. prefix_refl (r.f o)) (λ v h. same_taken xs accesses accesses' 0 v h mine same) (r.places j q at_j)
 
 -- ---- joins
 
@@ -246,11 +248,11 @@ other_last fs u v h apart = let k : (v == u) ≡ false = not_equal v u apart in 
 this_last : {A : Type 0} (fs : ℕ → A) (u v : ℕ) (h : A) → v ≡ u → (if v == u then h else fs v) ≡ h
 this_last fs u v h same = let k : (v == u) ≡ true = eq-eqb v u same in rw k refl
 
--- a thread that ran has ended with its whole list, and main has taken its tokens in
-pub join_goes : {G : Type 0} (s : Scene) (xs : List RunObject) (list : List Item) (tokens tokens' : List Token) (others : List (Place G)) (i : ℕ) (u : ThreadNo) (thread : Thread (Work G) Ended) (ys : Vec Item Global) (ended : List Token) → u.0 ≡ suc i → RunOf s xs list tokens others → slice_get others i ≡ Some (places.Running thread) → AreTokens xs 0 tokens → AreTokens xs (suc i) ended → ((job : Work G) → job_to_join thread ≡ Some job → IsBody s xs (suc i) job.standing.tokens.items ys.items ended) → AllTakeIn xs ended tokens tokens' → RunOf s xs (list ++ items.Control (controls.Join u) ∷ []) tokens' (slice_set others i (places.Ended ys))
-join_goes {G} s xs list tokens tokens' others i u thread ys ended u_is r at mine theirs body takes = record {
+-- a thread that ran has ended with its whole list, and main has taken its accesses in
+pub join_goes : {G : Type 0} (s : Scene) (xs : List RunObject) (list : List Item) (accesses accesses' : List Access) (others : List (Place G)) (i : ℕ) (u : ThreadNo) (thread : Thread (Work G) Ended) (ys : Vec Item Global) (ended : List Access) → u.0 ≡ suc i → RunOf s xs list accesses others → slice_get others i ≡ Some (places.Running thread) → AreAccesses xs 0 accesses → AreAccesses xs (suc i) ended → ((job : Work G) → job_to_join thread ≡ Some job → IsBody s (suc i) job.standing.accesses.items ys.items ended) → AllTakeIn ended accesses accesses' → RunOf s xs (list ++ items.Control (controls.Join u) ∷ []) accesses' (slice_set others i (places.Ended ys))
+join_goes {G} s xs list accesses accesses' others i u thread ys ended u_is r at mine theirs body takes = record {
   count = ap suc (length_set others i (places.Ended ys)) ∙ r.count;
-  splits = λ o k at_k. took_splits xs ended tokens tokens' 0 (suc i) (length others) theirs mine takes r.splits o k at_k ∙ sym (length_set others i (places.Ended ys));
+  splits = λ o k at_k. split_set k (length_set others i (places.Ended ys)) (took_splits xs ended accesses accesses' 0 (suc i) (length others) theirs mine takes r.splits o k at_k);
   first = r.first;
   last = with_thread r.last u.0 came.0;
   lists = with_list r.lists u.0 ys.items;
@@ -269,34 +271,36 @@ join_goes {G} s xs list tokens tokens' others i u thread ys ended u_is r at mine
     runs : (any_starts (suc i) list ≡ true) × (any_joins (suc i) list ≡ false) × IsOff s xs (suc i) (r.first (suc i)) thread
     runs = r.places i (places.Running thread) at
 
-    done : IsBody s xs (suc i) runs.2.job.standing.tokens.items ys.items ended
+    done : IsBody s (suc i) runs.2.job.standing.accesses.items ys.items ended
     done = body runs.2.job runs.2.to_join
 
-    came : (k : Fronts) × AreShown xs ended k × ((first' last' : ℕ → Fronts) → Path s first' last' (suc i) (r.first (suc i)) ys.items k)
+    came : (k : Fronts) × AreShown ended k × ((first' last' : ℕ → Fronts) → Path s first' last' (suc i) (r.first (suc i)) ys.items k)
     came = done.promised (r.first (suc i)) runs.2.shown
 
-    met : Meets xs tokens' 0 came.0 r.f
-    met = took_shown xs ended tokens tokens' 0 (suc i) came.0 r.f theirs mine takes came.1 r.shown
+    met : Meets accesses' 0 came.0 r.f
+    met = took_shown xs ended accesses accesses' 0 (suc i) came.0 r.f theirs mine takes came.1 r.shown
 
-    place_ : (j : ℕ) (q : Place G) → Stands others i (places.Ended ys) j q → IsPlace s xs r.first (with_thread r.last u.0 came.0) (with_list r.lists u.0 ys.items) (list ++ items.Control (controls.Join u) ∷ []) tokens' met.g (suc j) q
+    place_ : (j : ℕ) (q : Place G) → Stands others i (places.Ended ys) j q → IsPlace s xs r.first (with_thread r.last u.0 came.0) (with_list r.lists u.0 ys.items) (list ++ items.Control (controls.Join u) ∷ []) accesses' met.g (suc j) q
     place_ j q (here at_i is) =
         let starts_ : any_starts (suc i) (list ++ items.Control (controls.Join u) ∷ []) ≡ true = same_starts (suc i) list (items.Control (controls.Join u)) refl ∙ runs.0 in
         let joins_ : any_joins (suc i) (list ++ items.Control (controls.Join u) ∷ []) ≡ true = joins_more (suc i) list (items.Control (controls.Join u)) ∙ or_one (any_joins (suc i) list) (u.0 == suc i) (eq-eqb u.0 (suc i) u_is) in
-        let taken_ : HaveTaken tokens' (suc i) came.0 = took_them xs ended tokens tokens' 0 (suc i) came.0 r.f theirs mine takes came.1 r.shown in
-        let come : HasCome s (suc i) true (r.first (suc i)) (with_thread r.last u.0 came.0 (suc i)) (with_list r.lists u.0 ys.items (suc i)) ys.items tokens' met.g = (this_last r.lists u.0 (suc i) ys.items (sym u_is), subst (λ (h : Fronts). HaveTaken tokens' (suc i) h) (sym (this_last r.last u.0 (suc i) came.0 (sym u_is))) taken_) in
-        subst (λ n. IsPlace s xs r.first (with_thread r.last u.0 came.0) (with_list r.lists u.0 ys.items) (list ++ items.Control (controls.Join u) ∷ []) tokens' met.g (suc n) q) (sym at_i)
-        (subst (λ (z : Place G). IsPlace s xs r.first (with_thread r.last u.0 came.0) (with_list r.lists u.0 ys.items) (list ++ items.Control (controls.Join u) ∷ []) tokens' met.g (suc i) z) is
-        (starts_, record { whole = done.whole; formed = done.formed }, subst (λ (b : Bool). HasCome s (suc i) b (r.first (suc i)) (with_thread r.last u.0 came.0 (suc i)) (with_list r.lists u.0 ys.items (suc i)) ys.items tokens' met.g) (sym joins_) come))
+        let taken_ : HaveTaken accesses' (suc i) came.0 = took_them xs ended accesses accesses' 0 (suc i) came.0 theirs mine takes came.1 in
+        let last_ : came.0 ≡ with_thread r.last u.0 came.0 (suc i) = sym (this_last r.last u.0 (suc i) came.0 (sym u_is)) in
+        let whole_ : IsWholeList s (suc i) came.0 ys.items = record { whole = done.whole came.0 came.1; formed = done.formed } in
+        let come : HasCome s (suc i) true (r.first (suc i)) (with_thread r.last u.0 came.0 (suc i)) (with_list r.lists u.0 ys.items (suc i)) ys.items accesses' met.g = (this_last r.lists u.0 (suc i) ys.items (sym u_is), subst (λ (h : Fronts). HaveTaken accesses' (suc i) h) last_ taken_, subst (λ (h : Fronts). IsWholeList s (suc i) h ys.items) last_ whole_) in
+        subst (λ n. IsPlace s xs r.first (with_thread r.last u.0 came.0) (with_list r.lists u.0 ys.items) (list ++ items.Control (controls.Join u) ∷ []) accesses' met.g (suc n) q) (sym at_i)
+        (subst (λ (z : Place G). IsPlace s xs r.first (with_thread r.last u.0 came.0) (with_list r.lists u.0 ys.items) (list ++ items.Control (controls.Join u) ∷ []) accesses' met.g (suc i) z) is
+        (starts_, subst (λ (b : Bool). HasCome s (suc i) b (r.first (suc i)) (with_thread r.last u.0 came.0 (suc i)) (with_list r.lists u.0 ys.items (suc i)) ys.items accesses' met.g) (sym joins_) come))
     place_ j q (elsewhere apart at_j) =
         let other : (u.0 == suc j) ≡ false = not_equal u.0 (suc j) (λ e. apart (omega (arith, e, u_is))) in
-        place_goes s xs r.first r.last r.first (with_thread r.last u.0 came.0) r.lists (with_list r.lists u.0 ys.items) list (list ++ items.Control (controls.Join u) ∷ []) tokens tokens' r.f met.g (suc j) q
+        place_goes s xs r.first r.last r.first (with_thread r.last u.0 came.0) r.lists (with_list r.lists u.0 ys.items) list (list ++ items.Control (controls.Join u) ∷ []) accesses accesses' r.f met.g (suc j) q
         (same_starts (suc j) list (items.Control (controls.Join u)) refl)
         (same_joins (suc j) list (items.Control (controls.Join u)) other)
         refl
         (other_last r.last u.0 (suc j) came.0 (λ e. apart (omega (arith, e, u_is))))
         (other_last r.lists u.0 (suc j) ys.items (λ e. apart (omega (arith, e, u_is))))
         (λ o. (met.both o).two)
-        (λ v h. took_more xs ended tokens tokens' 0 (suc i) v h theirs mine takes)
+        (λ v h. took_more xs ended accesses accesses' 0 (suc i) v h theirs mine takes)
         (r.places j q at_j)
 
 -- ---- after main's end
@@ -305,11 +309,11 @@ join_goes {G} s xs list tokens tokens' others i u thread ys ended u_is r at mine
 drift : (s : Scene) (first last : ℕ → Fronts) (lists : ℕ → List Item) (list : List Item) (f g : Fronts) → Main s first last lists list f → Moved 0 f g none_own → Main s first last lists list g
 drift s first last lists list f g m moved = subst (λ (l : List Item). Main s first last lists l g) (append-nil list) (main_goes s first last lists list [] f g m (λ u. refl) (λ u. refl) moved)
 
--- a thread that was never started: main has taken its tokens in
-pub idle_goes : {G : Type 0} (s : Scene) (xs : List RunObject) (list : List Item) (tokens tokens' : List Token) (others : List (Place G)) (i : ℕ) (w : Work G) → RunOf s xs list tokens others → slice_get others i ≡ Some (places.Waiting w) → AreTokens xs 0 tokens → AreTokens xs (suc i) w.standing.tokens.items → AllTakeIn xs w.standing.tokens.items tokens tokens' → RunOf s xs list tokens' (slice_set others i places.Idle)
-idle_goes {G} s xs list tokens tokens' others i w r at mine theirs takes = record {
+-- a thread that was never started: main has taken its accesses in
+pub idle_goes : {G : Type 0} (s : Scene) (xs : List RunObject) (list : List Item) (accesses accesses' : List Access) (others : List (Place G)) (i : ℕ) (w : Work G) → RunOf s xs list accesses others → slice_get others i ≡ Some (places.Waiting w) → AreAccesses xs 0 accesses → AreAccesses xs (suc i) w.standing.accesses.items → AllTakeIn w.standing.accesses.items accesses accesses' → RunOf s xs list accesses' (slice_set others i places.Idle)
+idle_goes {G} s xs list accesses accesses' others i w r at mine theirs takes = record {
   count = ap suc (length_set others i places.Idle) ∙ r.count;
-  splits = λ o k at_k. took_splits xs w.standing.tokens.items tokens tokens' 0 (suc i) (length others) theirs mine takes r.splits o k at_k ∙ sym (length_set others i places.Idle);
+  splits = λ o k at_k. split_set k (length_set others i places.Idle) (took_splits xs w.standing.accesses.items accesses accesses' 0 (suc i) (length others) theirs mine takes r.splits o k at_k);
   first = r.first;
   last = r.last;
   lists = r.lists;
@@ -323,22 +327,22 @@ idle_goes {G} s xs list tokens tokens' others i w r at mine theirs takes = recor
     waits : (any_starts (suc i) list ≡ false) × IsReady s xs (suc i) w
     waits = r.places i (places.Waiting w) at
 
-    met : Meets xs tokens' 0 waits.1.h r.f
-    met = took_shown xs w.standing.tokens.items tokens tokens' 0 (suc i) waits.1.h r.f theirs mine takes waits.1.shown r.shown
+    met : Meets accesses' 0 waits.1.h r.f
+    met = took_shown xs w.standing.accesses.items accesses accesses' 0 (suc i) waits.1.h r.f theirs mine takes waits.1.shown r.shown
 
-    place_ : (j : ℕ) (q : Place G) → Stands others i places.Idle j q → IsPlace s xs r.first r.last r.lists list tokens' met.g (suc j) q
+    place_ : (j : ℕ) (q : Place G) → Stands others i places.Idle j q → IsPlace s xs r.first r.last r.lists list accesses' met.g (suc j) q
     place_ j q (here at_i is) =
-        let idle : WasIdle (suc i) tokens' met.g = record { h = waits.1.h; fresh = waits.1.fresh; grows = λ o. (met.both o).one; taken = took_them xs w.standing.tokens.items tokens tokens' 0 (suc i) waits.1.h r.f theirs mine takes waits.1.shown r.shown } in
-        subst (λ n. IsPlace s xs r.first r.last r.lists list tokens' met.g (suc n) q) (sym at_i)
-        (subst (λ (z : Place G). IsPlace s xs r.first r.last r.lists list tokens' met.g (suc i) z) is (waits.0, idle))
+        let idle : WasIdle (suc i) accesses' met.g = record { h = waits.1.h; fresh = waits.1.fresh; grows = λ o. (met.both o).one; taken = took_them xs w.standing.accesses.items accesses accesses' 0 (suc i) waits.1.h theirs mine takes waits.1.shown } in
+        subst (λ n. IsPlace s xs r.first r.last r.lists list accesses' met.g (suc n) q) (sym at_i)
+        (subst (λ (z : Place G). IsPlace s xs r.first r.last r.lists list accesses' met.g (suc i) z) is (waits.0, idle))
     place_ j q (elsewhere apart at_j) =
-        place_goes s xs r.first r.last r.first r.last r.lists r.lists list list tokens tokens' r.f met.g (suc j) q refl refl refl refl refl (λ o. (met.both o).two) (λ v h. took_more xs w.standing.tokens.items tokens tokens' 0 (suc i) v h theirs mine takes) (r.places j q at_j)
+        place_goes s xs r.first r.last r.first r.last r.lists r.lists list list accesses accesses' r.f met.g (suc j) q refl refl refl refl refl (λ o. (met.both o).two) (λ v h. took_more xs w.standing.accesses.items accesses accesses' 0 (suc i) v h theirs mine takes) (r.places j q at_j)
 
--- a thread that main's list doesn't join: it has ended, and main has taken its tokens in
-pub late_goes : {G : Type 0} (s : Scene) (xs : List RunObject) (list : List Item) (tokens tokens' : List Token) (others : List (Place G)) (i : ℕ) (thread : Thread (Work G) Ended) (ys : Vec Item Global) (ended : List Token) → RunOf s xs list tokens others → slice_get others i ≡ Some (places.Running thread) → AreTokens xs 0 tokens → AreTokens xs (suc i) ended → ((job : Work G) → job_to_join thread ≡ Some job → IsBody s xs (suc i) job.standing.tokens.items ys.items ended) → AllTakeIn xs ended tokens tokens' → RunOf s xs list tokens' (slice_set others i (places.Ended ys))
-late_goes {G} s xs list tokens tokens' others i thread ys ended r at mine theirs body takes = record {
+-- a thread that main's list doesn't join: it has ended, and main has taken its accesses in
+pub late_goes : {G : Type 0} (s : Scene) (xs : List RunObject) (list : List Item) (accesses accesses' : List Access) (others : List (Place G)) (i : ℕ) (thread : Thread (Work G) Ended) (ys : Vec Item Global) (ended : List Access) → RunOf s xs list accesses others → slice_get others i ≡ Some (places.Running thread) → AreAccesses xs 0 accesses → AreAccesses xs (suc i) ended → ((job : Work G) → job_to_join thread ≡ Some job → IsBody s (suc i) job.standing.accesses.items ys.items ended) → AllTakeIn ended accesses accesses' → RunOf s xs list accesses' (slice_set others i (places.Ended ys))
+late_goes {G} s xs list accesses accesses' others i thread ys ended r at mine theirs body takes = record {
   count = ap suc (length_set others i (places.Ended ys)) ∙ r.count;
-  splits = λ o k at_k. took_splits xs ended tokens tokens' 0 (suc i) (length others) theirs mine takes r.splits o k at_k ∙ sym (length_set others i (places.Ended ys));
+  splits = λ o k at_k. split_set k (length_set others i (places.Ended ys)) (took_splits xs ended accesses accesses' 0 (suc i) (length others) theirs mine takes r.splits o k at_k);
   first = r.first;
   last = r.last;
   lists = r.lists;
@@ -352,20 +356,20 @@ late_goes {G} s xs list tokens tokens' others i thread ys ended r at mine theirs
     runs : (any_starts (suc i) list ≡ true) × (any_joins (suc i) list ≡ false) × IsOff s xs (suc i) (r.first (suc i)) thread
     runs = r.places i (places.Running thread) at
 
-    done : IsBody s xs (suc i) runs.2.job.standing.tokens.items ys.items ended
+    done : IsBody s (suc i) runs.2.job.standing.accesses.items ys.items ended
     done = body runs.2.job runs.2.to_join
 
-    came : (k : Fronts) × AreShown xs ended k × ((first' last' : ℕ → Fronts) → Path s first' last' (suc i) (r.first (suc i)) ys.items k)
+    came : (k : Fronts) × AreShown ended k × ((first' last' : ℕ → Fronts) → Path s first' last' (suc i) (r.first (suc i)) ys.items k)
     came = done.promised (r.first (suc i)) runs.2.shown
 
-    met : Meets xs tokens' 0 came.0 r.f
-    met = took_shown xs ended tokens tokens' 0 (suc i) came.0 r.f theirs mine takes came.1 r.shown
+    met : Meets accesses' 0 came.0 r.f
+    met = took_shown xs ended accesses accesses' 0 (suc i) came.0 r.f theirs mine takes came.1 r.shown
 
-    place_ : (j : ℕ) (q : Place G) → Stands others i (places.Ended ys) j q → IsPlace s xs r.first r.last r.lists list tokens' met.g (suc j) q
+    place_ : (j : ℕ) (q : Place G) → Stands others i (places.Ended ys) j q → IsPlace s xs r.first r.last r.lists list accesses' met.g (suc j) q
     place_ j q (here at_i is) =
-        let come : HasCome s (suc i) false (r.first (suc i)) (r.last (suc i)) (r.lists (suc i)) ys.items tokens' met.g = (came.0, record { made = came.2; grows = λ o. (met.both o).one; taken = took_them xs ended tokens tokens' 0 (suc i) came.0 r.f theirs mine takes came.1 r.shown }) in
-        subst (λ n. IsPlace s xs r.first r.last r.lists list tokens' met.g (suc n) q) (sym at_i)
-        (subst (λ (z : Place G). IsPlace s xs r.first r.last r.lists list tokens' met.g (suc i) z) is
-        (runs.0, record { whole = done.whole; formed = done.formed }, subst (λ (b : Bool). HasCome s (suc i) b (r.first (suc i)) (r.last (suc i)) (r.lists (suc i)) ys.items tokens' met.g) (sym runs.1) come))
+        let come : HasCome s (suc i) false (r.first (suc i)) (r.last (suc i)) (r.lists (suc i)) ys.items accesses' met.g = (came.0, record { list = record { whole = done.whole came.0 came.1; formed = done.formed }; made = came.2; grows = λ o. (met.both o).one; taken = took_them xs ended accesses accesses' 0 (suc i) came.0 theirs mine takes came.1 }) in
+        subst (λ n. IsPlace s xs r.first r.last r.lists list accesses' met.g (suc n) q) (sym at_i)
+        (subst (λ (z : Place G). IsPlace s xs r.first r.last r.lists list accesses' met.g (suc i) z) is
+        (runs.0, subst (λ (b : Bool). HasCome s (suc i) b (r.first (suc i)) (r.last (suc i)) (r.lists (suc i)) ys.items accesses' met.g) (sym runs.1) come))
     place_ j q (elsewhere apart at_j) =
-        place_goes s xs r.first r.last r.first r.last r.lists r.lists list list tokens tokens' r.f met.g (suc j) q refl refl refl refl refl (λ o. (met.both o).two) (λ v h. took_more xs ended tokens tokens' 0 (suc i) v h theirs mine takes) (r.places j q at_j)
+        place_goes s xs r.first r.last r.first r.last r.lists r.lists list list accesses accesses' r.f met.g (suc j) q refl refl refl refl refl (λ o. (met.both o).two) (λ v h. took_more xs ended accesses accesses' 0 (suc i) v h theirs mine takes) (r.places j q at_j)

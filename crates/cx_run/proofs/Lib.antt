@@ -1,5 +1,5 @@
 pub mod Meeting
-pub mod Tokens
+pub mod Accesses
 pub mod Keeping
 pub mod Ending
 pub mod Settled
@@ -7,7 +7,6 @@ pub mod Going
 pub mod Tallying
 pub mod Beginning
 pub mod Righting
-pub mod Handed
 pub mod Passed
 pub mod Parts
 pub mod Stepped

@@ -1,28 +1,32 @@
 -- What is so of a run stays so, by its parts.
-use Rattle.std.proofs.Common.{◌≡◌, ℕ, zero, suc, ◌+◌, ◌-◌, ◌<◌, Bool, true, false, List, [], ◌∷◌, ◌++◌, length, slice_get, slice_set, Option, Some, None, Result, Ok, Err, IfSome, MatchOption, get_or, refl, sym, ap, ◌∙◌, subst, arith}
+use Rattle.std.proofs.Common.{◌≡◌, ◌⊎◌, inl, inr, ℕ, zero, suc, ◌+◌, ◌-◌, ◌<◌, Bool, true, false, List, [], ◌∷◌, ◌++◌, length, slice_get, slice_set, Option, Some, None, Result, Ok, Err, IfSome, MatchOption, get_or, refl, sym, ap, ◌∙◌, subst, arith}
 use Rattle.std.specs.Global.{Vec}
 use Rattle.std.specs.Vec.{with_items}
 use Rattle.std.proofs.lemmas.List.{with_items_is}
 use Rattle.cx_names.specs.declared.ThreadNo.{ThreadNo}
 use Rattle.cx_names.specs.declared.Errc.{Errc}
-use Rattle.cx_scene.specs.Scene.{Scene}
+use Rattle.cx_scene.specs.declared.plan.Plan.{Plan}
+use Rattle.cx_scene.specs.Scene.{Scene, scene_of}
 use Rattle.cx_items.specs.declared.item.Control.TheVariants as controls
 use Rattle.cx_items.specs.declared.item.Item.{Item}
+use Rattle.cx_items.specs.declared.local.Local.{Local}
 use Rattle.cx_items.specs.declared.item.Item.TheVariants as items
-use Rattle.cx_fronts.specs.Paths.{Fronts}
+use Rattle.cx_fronts.specs.Paths.{Fronts, Grows}
 use Rattle.cx_fronts.specs.Counts.{change_count}
 use Rattle.cx_io.specs.Spawning.{Raised}
 use Rattle.cx_io.proofs.Counts.{raised_none, at_least_none}
 use Rattle.cx_jthread.specs.declared.thread.Thread.{Thread}
 use Rattle.cx_jthread.specs.Threads.{job_to_join}
-use Rattle.cx_work.specs.declared.objects.RunObject.{RunObject}
+use Rattle.cx_kinds.specs.Accesses.{RunObject}
 use Rattle.cx_work.specs.declared.standing.Standing.{Standing}
-use Rattle.cx_work.specs.declared.token.Token.{Token}
+use Rattle.cx_kinds.specs.declared.access.Access.{Access}
 use Rattle.cx_work.specs.declared.work.Work.{Work}
 use Rattle.cx_work.specs.declared.work.Ended.{Ended}
-use Rattle.cx_work.specs.Bodies.{Needs, Gives, IsBody, scene_in, all_in}
-use Rattle.cx_work.specs.Steps.{IsAt, StepsOn, is_made_alone}
-use Rattle.cx_work.specs.Tokens.{AreTokens, AreShown}
+use Rattle.cx_work.specs.Bodies.{Needs, Gives, IsBody, scene_in, objects_in}
+use Rattle.cx_work.specs.Steps.{StandsAt, IsAt, StepsOn, is_made_alone}
+use Rattle.cx_work.specs.Accesses.{AreMadeAs, AreAccesses, AreShown, objects_of}
+use Rattle.cx_work.proofs.Stepping.{objects_are, some_fronts}
+use Rattle.cx_work.proofs.Walking.{stands_later}
 use Rattle.cx_run.specs.declared.place.Place.{Place}
 use Rattle.cx_run.specs.declared.place.Place.TheVariants as places
 use Rattle.cx_run.specs.declared.run.Run.{Run}
@@ -32,7 +36,7 @@ use Rattle.cx_run.proofs.Going.{made_alone}
 use Rattle.cx_run.proofs.Keeping.{Stands, here, elsewhere, get_set, start_goes, refusal_goes, join_goes, idle_goes, late_goes}
 use Rattle.cx_run.proofs.Passed.{read_at}
 use Rattle.cx_run.proofs.Tallying.{tallied_more, tallied_alone, steps_set}
-use Rattle.cx_run.proofs.Tokens.{same_tokens, met_tokens, took_tokens}
+use Rattle.cx_run.proofs.Accesses.{same_accesses, met_accesses, met_shown, took_accesses, same_later, took_later}
 
 -- ---- lists
 
@@ -52,13 +56,20 @@ if_some P o x is h = rw is h
 from_some : {A : Type 0} (P : A → Type 0) (o : Option A) (x : A) → o ≡ Some x → IfSome o P → P x
 from_some P o x is h = rw is at h
 
+is_some_or_none : {A : Type 0} (o : Option A) → (o ≡ None) ⊎ ((x : A) × (o ≡ Some x))
+is_some_or_none None = inl refl
+is_some_or_none (Some x) = inr (x, refl)
+
+two_ways : {T E : Type 0} (result : Result T E) (x : T) (e : E) → result ≡ Ok x → result ≡ Err e → ⊥
+two_ways result x e ok err = cc (ok, err)
+
 before_one : (u : ThreadNo) → 0 < u.0 → u.0 ≡ suc (u.0 - 1)
 before_one u h = omega (arith, h)
 
 same_thread : (t u : ThreadNo) → t.0 ≡ 0 → u.0 ≡ 0 → t ≡ u
 same_thread t u h k = ap (λ n. let v : ThreadNo = record { 0 = n } in v) (h ∙ sym k)
 
-pub vec_is : (v : Vec Token) (ws : List Token) → length ws ≡ length v.items → (with_items v ws).items ≡ ws
+pub vec_is : (v : Vec Access) (ws : List Access) → length ws ≡ length v.items → (with_items v ws).items ≡ ws
 vec_is v ws h = with_items_is v ws (h ∙ sym v.ok.0)
 
 join_counts : (before now : Tally) (u : ThreadNo) (n : ℕ) → now.faults ≡ before.faults → now.started ≡ before.started → Raised before.carried now.carried n → IsTallied before now (items.Control (controls.Join u) ∷ []) n
@@ -71,8 +82,41 @@ append_none : {A : Type 0} (xs : List A) → xs ++ [] ≡ xs
 append_none [] = refl
 append_none (x ∷ xs) = ap (λ ys. x ∷ ys) (append_none xs)
 
-pub takes_as : (os xs : List RunObject) (others ks0 ks ks' : List Token) → os ≡ xs → ks0 ≡ ks → AllTakeIn os others ks0 ks' → AllTakeIn xs others ks ks'
-takes_as os xs others ks0 ks ks' a b takes = subst (λ (l : List RunObject). AllTakeIn l others ks ks') a (subst (λ (l : List Token). AllTakeIn os others l ks') b takes)
+pub takes_as : (others ks0 ks ks' : List Access) → ks0 ≡ ks → AllTakeIn others ks0 ks' → AllTakeIn others ks ks'
+takes_as others ks0 ks ks' b takes = subst (λ (l : List Access). AllTakeIn others l ks') b takes
+
+-- ---- where main stands once its accesses show more
+
+own_of : (xs : List RunObject) (t : ℕ) (ks : List Access) → AreAccesses xs t ks → AreAccesses (objects_of ks) t ks
+own_of xs t ks are = subst (λ (ys : List RunObject). AreAccesses ys t ks) (sym (objects_are xs t ks are)) are
+
+fronts_of : (xs : List RunObject) (t : ℕ) (ks : List Access) → AreAccesses xs t ks → (f : Fronts) × AreShown ks f
+fronts_of xs t ks are = some_fronts t ks (own_of xs t ks are)
+
+pub same_at : (s : Scene) (xs : List RunObject) (t : ℕ) (ks ks' : List Access) (list : List Item) (l : Local) → AreAccesses xs t ks → AllAsBefore ks ks' → StandsAt s t ks list l → StandsAt s t ks' list l
+same_at s xs t ks ks' list l are same at_ = stands_later s t ks ks' list l (fronts_of xs t ks are) (λ f shown. same_later ks ks' f same shown) at_
+
+pub took_at : (s : Scene) (xs : List RunObject) (t u : ℕ) (others ks ks' : List Access) (list : List Item) (l : Local) → AreAccesses xs t ks → AreAccesses xs u others → AllTakeIn others ks ks' → StandsAt s t ks list l → StandsAt s t ks' list l
+took_at s xs t u others ks ks' list l are theirs takes at_ =
+    let other = fronts_of xs u others theirs in
+    stands_later s t ks ks' list l (fronts_of xs t ks are) (λ f shown. took_later xs others ks ks' t u other.0 f theirs are takes other.1 shown) at_
+
+-- where main stands, by equal parts
+pub met_stands : (p : Plan) (t : ThreadNo) (ks : Vec Access) (ws : List Access) (list : List Item) (l : Local) (q : Plan) → p ≡ q → t.0 ≡ 0 → (with_items ks ws).items ≡ ws → StandsAt (scene_of q) 0 ws list l → StandsAt (scene_of p) t.0 (with_items ks ws).items list l
+met_stands p t ks ws list l q is_p is_t is_ks at_ = rw (is_p, is_t, is_ks) at_
+
+pub joined_stands : (p q : Plan) (t : ThreadNo) (ks : List Access) (list list' : List Item) (l l' : Local) → p ≡ q → t.0 ≡ 0 → list' ≡ list → l' ≡ l → StandsAt (scene_of q) 0 ks list l → StandsAt (scene_of p) t.0 ks list' l'
+joined_stands p q t ks list list' l l' is_p is_t is_list is_l at_ = rw (is_p, is_t, is_list, is_l) at_
+
+met_at : (s : Scene) (xs : List RunObject) (t u : ℕ) (others ks ks' : List Access) (list : List Item) (l : Local) → AreAccesses xs t others → AreAccesses xs u ks → AllMet others ks ks' → StandsAt s u ks list l → StandsAt s u ks' list l
+met_at s xs t u others ks ks' list l theirs are meets at_ =
+    stands_later s u ks ks' list l (fronts_of xs u ks are) later at_
+  where
+    later : (f : Fronts) → AreShown ks f → (g : Fronts) × AreShown ks' g × Grows f g
+    later f shown =
+        let other = fronts_of xs t others theirs in
+        let m = met_shown xs others ks ks' t u other.0 f theirs are meets other.1 shown in
+        (m.g, m.shown, λ o. (m.both o).two)
 
 module _ {G : Type 0} where
   pub may_set : (ps : List (Place G)) (i : ℕ) (q : Place G) → MayRun q → ((j : ℕ) (p : Place G) → slice_get ps j ≡ Some p → MayRun p) → (j : ℕ) (p : Place G) → slice_get (slice_set ps i q) j ≡ Some p → MayRun p
@@ -84,28 +128,32 @@ module _ {G : Type 0} where
 
   -- ---- runs of the same parts
 
-  pub same_kept : (r r' : Run G) → r'.objects ≡ r.objects → r'.main.thread ≡ r.main.thread → r'.main.tokens.items ≡ r.main.tokens.items → r'.others.items ≡ r.others.items → IsKept r → IsKept r'
-  same_kept r r' a b c d kept = record {
+  pub same_kept : {xs : List RunObject} (r r' : Run G) → r'.objects ≡ r.objects → r'.main.thread ≡ r.main.thread → r'.main.accesses.items ≡ r.main.accesses.items → r'.others.items ≡ r.others.items → IsKept xs r → IsKept xs r'
+  same_kept {xs} r r' a b c d kept = record {
     made = rw a kept.made;
-    tokens = rw (a, c) kept.tokens;
+    accesses = rw c kept.accesses;
     thread = rw b kept.thread;
     may_run = λ i p at_p. kept.may_run i p (ap (λ (l : List (Place G)). slice_get l i) (sym d) ∙ at_p);
   }
 
-  pub same_run : (r r' : Run G) → r'.objects ≡ r.objects → r'.main.thread ≡ r.main.thread → r'.main.tokens.items ≡ r.main.tokens.items → r'.main.list.items ≡ r.main.list.items → r'.main.local ≡ r.main.local → r'.others.items ≡ r.others.items → IsRun r → IsRun r'
-  same_run r r' a b c d e f run = record {
+  pub same_run : {xs : List RunObject} (r r' : Run G) → r'.objects ≡ r.objects → r'.main.thread ≡ r.main.thread → r'.main.accesses.items ≡ r.main.accesses.items → r'.main.list.items ≡ r.main.list.items → r'.main.local ≡ r.main.local → r'.others.items ≡ r.others.items → IsRun xs r → IsRun xs r'
+  same_run {xs} r r' a b c d e f run = record {
     kept = same_kept r r' a b c f run.kept;
     runs_now = rw a run.runs_now;
-    at_ = rw (a, b, d, e) run.at_;
+    at_ = rw (a, b, c, d, e) run.at_;
     goes = rw (a, c, d, f) run.goes;
   }
 
-  -- what went on by parts
-  pub kept_of : (r r' : Run G) → r'.objects ≡ r.objects → r'.main.thread ≡ r.main.thread → AreTokens (all_in r.objects) 0 r'.main.tokens.items → ((i : ℕ) (p : Place G) → slice_get r'.others.items i ≡ Some p → MayRun p) → IsKept r → IsKept r'
-  kept_of r r' a b tokens may kept = record { made = rw a kept.made; tokens = rw a tokens; thread = rw b kept.thread; may_run = may }
+  -- main stands as thread 0
+  pub at_zero : {xs : List RunObject} {r : Run G} → IsRun xs r → StandsAt (scene_in r.objects) 0 r.main.accesses.items r.main.list.items r.main.local
+  at_zero {xs} {r} run = subst (λ n. StandsAt (scene_in r.objects) n r.main.accesses.items r.main.list.items r.main.local) run.kept.thread run.at_
 
-  pub run_of : (r r' : Run G) (list : List Item) (ks : List Token) (ps : List (Place G)) → IsRun r → r'.objects ≡ r.objects → IsKept r' → IsAt (scene_in r.objects) r'.main → r'.main.list.items ≡ list → r'.main.tokens.items ≡ ks → r'.others.items ≡ ps → RunOf (scene_in r.objects) (all_in r.objects) list ks ps → IsRun r'
-  run_of r r' list ks ps run a kept at_ b c d goes = record {
+  -- what went on by parts
+  pub kept_of : {xs : List RunObject} (r r' : Run G) → r'.objects ≡ r.objects → r'.main.thread ≡ r.main.thread → AreAccesses xs 0 r'.main.accesses.items → ((i : ℕ) (p : Place G) → slice_get r'.others.items i ≡ Some p → MayRun p) → IsKept xs r → IsKept xs r'
+  kept_of {xs} r r' a b accesses may kept = record { made = rw a kept.made; accesses = accesses; thread = rw b kept.thread; may_run = may }
+
+  pub run_of : {xs : List RunObject} (r r' : Run G) (list : List Item) (ks : List Access) (ps : List (Place G)) → IsRun xs r → r'.objects ≡ r.objects → IsKept xs r' → IsAt (scene_in r.objects) r'.main → r'.main.list.items ≡ list → r'.main.accesses.items ≡ ks → r'.others.items ≡ ps → RunOf (scene_in r.objects) xs list ks ps → IsRun xs r'
+  run_of {xs} r r' list ks ps run a kept at_ b c d goes = record {
     kept = kept;
     runs_now = rw a run.runs_now;
     at_ = rw a at_;
@@ -114,14 +162,16 @@ module _ {G : Type 0} where
 
   -- ---- main's own items
 
-  pub made_item : (r r' : Run G) (x : Item) → IsRun r → r'.objects ≡ r.objects → r'.main.thread ≡ r.main.thread → r'.others ≡ r.others → AreTokens (all_in r.objects) r'.main.thread.0 r'.main.tokens.items → r'.main.list.items ≡ r.main.list.items ++ x ∷ [] → StepsOn (all_in r.objects) r.main.tokens.items r'.main.tokens.items x → is_made_alone x ≡ true → IsAt (scene_in r.objects) r'.main → IsRun r'
-  made_item r r' x run a b c are grown steps alone at_ =
+  pub made_item : {xs : List RunObject} (r r' : Run G) (x : Item) → IsRun xs r → r'.objects ≡ r.objects → r'.main.thread ≡ r.main.thread → r'.others ≡ r.others → AreAccesses xs r'.main.thread.0 r'.main.accesses.items → r'.main.list.items ≡ r.main.list.items ++ x ∷ [] → StepsOn r.main.accesses.items r'.main.accesses.items x → is_made_alone x ≡ true → IsAt (scene_in r.objects) r'.main → IsRun xs r'
+  made_item {xs} r r' x run a b c are grown steps alone at_ =
       let zero_ : r'.main.thread.0 ≡ 0 = ap (λ (t : ThreadNo). t.0) b ∙ run.kept.thread in
-      let are' : AreTokens (all_in r.objects) 0 r'.main.tokens.items = subst (λ n. AreTokens (all_in r.objects) n r'.main.tokens.items) zero_ are in
-      run_of r r' (r.main.list.items ++ x ∷ []) r'.main.tokens.items r.others.items run a
+      let are' : AreAccesses xs 0 r'.main.accesses.items = subst (λ n. AreAccesses xs n r'.main.accesses.items) zero_ are in
+      let is : objects_of r.main.accesses.items ≡ xs = objects_are xs 0 r.main.accesses.items run.kept.accesses in
+      run_of r r' (r.main.list.items ++ x ∷ []) r'.main.accesses.items r.others.items run a
       (kept_of r r' a b are' (λ i p at_p. run.kept.may_run i p (ap (λ (v : Vec (Place G)). slice_get v.items i) (sym c) ∙ at_p)) run.kept)
       at_ grown refl (ap (λ (v : Vec (Place G)). v.items) c)
-      (made_alone (scene_in r.objects) (all_in r.objects) r.main.list.items r.main.tokens.items r'.main.tokens.items r.others.items x run.kept.made run.kept.tokens steps alone run.goes)
+      (subst (λ (ys : List RunObject). RunOf (scene_in r.objects) ys (r.main.list.items ++ x ∷ []) r'.main.accesses.items r.others.items) is
+      (made_alone (scene_in r.objects) r.main.list.items r.main.accesses.items r'.main.accesses.items r.others.items x (subst (λ (ys : List RunObject). AreMadeAs (scene_in r.objects).objects ys) (sym is) run.kept.made) (own_of xs 0 r.main.accesses.items run.kept.accesses) steps alone (subst (λ (ys : List RunObject). RunOf (scene_in r.objects) ys r.main.list.items r.main.accesses.items r.others.items) (sym is) run.goes)))
 
   pub made_tally : (now : Tally) (list list' : List Item) (ps ps' : List (Place G)) (x : Item) → ps' ≡ ps → list' ≡ list ++ x ∷ [] → is_made_alone x ≡ true → (base : Tally) → IsTallied base now list (steps_in ps) → IsTallied base now list' (steps_in ps')
   made_tally now list list' ps ps' x c grown alone base h =
@@ -141,67 +191,78 @@ module _ {G : Type 0} where
   thread_above u p old new h = before_one u h.above
 
   -- the place of thread u, as the run has it
-  pub waits_here : (r : Run G) (u : ThreadNo) (w : Work G) (new : List (Place G)) → IsRun r → IsHere u.0 (places.Waiting w) r.others.items new → IsReady (scene_in r.objects) (all_in r.objects) (suc (u.0 - 1)) w
-  waits_here r u w new run h = (run.goes.places (u.0 - 1) (places.Waiting w) h.was).1
+  pub waits_here : {xs : List RunObject} (r : Run G) (u : ThreadNo) (w : Work G) (new : List (Place G)) → IsRun xs r → IsHere u.0 (places.Waiting w) r.others.items new → IsReady (scene_in r.objects) xs (suc (u.0 - 1)) w
+  waits_here {xs} r u w new run h = (run.goes.places (u.0 - 1) (places.Waiting w) h.was).1
 
-  pub runs_here : (r : Run G) (i : ℕ) (thread : Thread (Work G) Ended) (run : IsRun r) → slice_get r.others.items i ≡ Some (places.Running thread) → IsOff (scene_in r.objects) (all_in r.objects) (suc i) (run.goes.first (suc i)) thread
-  runs_here r i thread run at_p = (run.goes.places i (places.Running thread) at_p).2
+  pub runs_here : {xs : List RunObject} (r : Run G) (i : ℕ) (thread : Thread (Work G) Ended) (run : IsRun xs r) → slice_get r.others.items i ≡ Some (places.Running thread) → IsOff (scene_in r.objects) xs (suc i) (run.goes.first (suc i)) thread
+  runs_here {xs} r i thread run at_p = (run.goes.places i (places.Running thread) at_p).2
 
-  pub ready_tokens : (s : Scene) (xs : List RunObject) (u : ℕ) (w : Work G) → IsReady s xs u w → AreTokens xs u w.standing.tokens.items
-  ready_tokens s xs u w ready = subst (λ (os : List RunObject). AreTokens os u w.standing.tokens.items) ready.objects (subst (λ n. AreTokens (all_in w.objects) n w.standing.tokens.items) ready.number ready.needs.tokens)
+  pub ready_accesses : (s : Scene) (xs : List RunObject) (u : ℕ) (w : Work G) → IsReady s xs u w → AreAccesses xs u w.standing.accesses.items
+  ready_accesses s xs u w ready = subst (λ (os : List RunObject). AreAccesses os u w.standing.accesses.items) ready.objects (subst (λ n. AreAccesses (objects_in w) n w.standing.accesses.items) ready.number ready.needs.accesses)
 
   -- the job of a thread that runs may be run, on this scene and these objects
-  pub off_job : (s : Scene) (xs : List RunObject) (u : ℕ) (first : Fronts) (thread : Thread (Work G) Ended) → IsOff s xs u first thread → IfSome (job_to_join thread) (λ w. Needs w × (scene_in w.objects ≡ s) × (all_in w.objects ≡ xs))
-  off_job s xs u first thread off = if_some (λ (w : Work G). Needs w × (scene_in w.objects ≡ s) × (all_in w.objects ≡ xs)) (job_to_join thread) off.job off.to_join (off.needs, off.scene, off.objects)
+  pub off_job : (s : Scene) (xs : List RunObject) (u : ℕ) (first : Fronts) (thread : Thread (Work G) Ended) → IsOff s xs u first thread → IfSome (job_to_join thread) (λ w. Needs w × (scene_in w.objects ≡ s) × (objects_in w ≡ xs))
+  off_job s xs u first thread off = if_some (λ (w : Work G). Needs w × (scene_in w.objects ≡ s) × (objects_in w ≡ xs)) (job_to_join thread) off.job off.to_join (off.needs, off.scene, off.objects)
 
   -- ---- starts
 
-  -- the same work, with tokens that have met main's
-  pub record IsRenewed (w w' : Work G) (theirs : List Token) : Type 0 where
+  -- the same work, with accesses that have met main's
+  pub record IsRenewed (w w' : Work G) (theirs : List Access) : Type 0 where
     pub objects : w'.objects ≡ w.objects
     pub thread : w'.standing.thread ≡ w.standing.thread
     pub list : w'.standing.list ≡ w.standing.list
     pub local : w'.standing.local ≡ w.standing.local
-    pub tokens : w'.standing.tokens.items ≡ theirs
+    pub accesses : w'.standing.accesses.items ≡ theirs
 
-  renewed_needs : (w w' : Work G) (theirs : List Token) → Needs w → IsRenewed w w' theirs → AreTokens (all_in w.objects) w.standing.thread.0 theirs → Needs w'
-  renewed_needs w w' theirs needs n tokens = record {
-    made = rw n.objects needs.made;
-    tokens = rw (n.objects, n.thread, n.tokens) tokens;
-    at_ = rw (n.objects, n.thread, n.list, n.local) needs.at_;
-    fresh = rw n.list needs.fresh;
-  }
+  renewed_needs : (w w' : Work G) (theirs : List Access) → Needs w → IsRenewed w w' theirs → AreAccesses (objects_in w) w.standing.thread.0 theirs → StandsAt (scene_in w.objects) w.standing.thread.0 theirs w.standing.list.items w.standing.local → Needs w'
+  renewed_needs w w' theirs needs n are at_ =
+      let is : objects_of theirs ≡ objects_in w = objects_are (objects_in w) w.standing.thread.0 theirs are in
+      record {
+        asks = rw n.objects needs.asks;
+        made = rw (n.objects, n.accesses, is) needs.made;
+        accesses = rw (n.thread, n.accesses, is) are;
+        at_ = rw (n.objects, n.thread, n.accesses, n.list, n.local) at_;
+        fresh = rw n.list needs.fresh;
+      }
 
-  pub met_needs : (s : Scene) (xs : List RunObject) (u : ℕ) (ks theirs : List Token) (w w' : Work G) → IsReady s xs u w → AreTokens xs 0 ks → AllMet xs ks w.standing.tokens.items theirs → IsRenewed w w' theirs → Needs w'
+  renewed_objects : (xs : List RunObject) (u : ℕ) (w w' : Work G) (theirs : List Access) → AreAccesses xs u theirs → IsRenewed w w' theirs → objects_in w' ≡ xs
+  renewed_objects xs u w w' theirs are n = ap objects_of n.accesses ∙ objects_are xs u theirs are
+
+  pub met_needs : (s : Scene) (xs : List RunObject) (u : ℕ) (ks theirs : List Access) (w w' : Work G) → IsReady s xs u w → AreAccesses xs 0 ks → AllMet ks w.standing.accesses.items theirs → IsRenewed w w' theirs → Needs w'
   met_needs s xs u ks theirs w w' ready mine meets n =
-      let tokens : AreTokens xs u theirs = met_tokens xs ks w.standing.tokens.items theirs 0 u mine meets (ready_tokens s xs u w ready) in
-      renewed_needs w w' theirs ready.needs n (subst (λ m. AreTokens (all_in w.objects) m theirs) (sym ready.number) (subst (λ (os : List RunObject). AreTokens os u theirs) (sym ready.objects) tokens))
+      let own = ready_accesses s xs u w ready in
+      let are : AreAccesses xs u theirs = met_accesses xs ks w.standing.accesses.items theirs 0 u mine meets own in
+      let stands : StandsAt (scene_in w.objects) u w.standing.accesses.items w.standing.list.items w.standing.local = subst (λ m. StandsAt (scene_in w.objects) m w.standing.accesses.items w.standing.list.items w.standing.local) ready.number ready.needs.at_ in
+      let at_ = met_at (scene_in w.objects) xs 0 u ks w.standing.accesses.items theirs w.standing.list.items w.standing.local mine own meets stands in
+      renewed_needs w w' theirs ready.needs n
+      (subst (λ m. AreAccesses (objects_in w) m theirs) (sym ready.number) (subst (λ (os : List RunObject). AreAccesses os u theirs) (sym ready.objects) are))
+      (subst (λ m. StandsAt (scene_in w.objects) m theirs w.standing.list.items w.standing.local) (sym ready.number) at_)
 
-  begun_goes : (s : Scene) (xs : List RunObject) (list : List Item) (ks ks' theirs : List Token) (others : List (Place G)) (i : ℕ) (u : ThreadNo) (w w' : Work G) (ok : Bool) (p : Place G) → u.0 ≡ suc i → RunOf s xs list ks others → slice_get others i ≡ Some (places.Waiting w) → AreTokens xs 0 ks → IsReady s xs (suc i) w → AllAsBefore xs ks ks' → AllMet xs ks w.standing.tokens.items theirs → IsRenewed w w' theirs → Needs w' → IsBegun u w' ok p → RunOf s xs (list ++ items.Control (controls.Start u ok) ∷ []) ks' (slice_set others i p)
-  begun_goes s xs list ks ks' theirs others i u w w' true (places.Running thread) u_is r at_p mine ready same meets n needs begun =
-      start_goes s xs list ks ks' theirs others i u w thread u_is r at_p mine (ready_tokens s xs (suc i) w ready) same meets
+  begun_goes : (s : Scene) (xs : List RunObject) (list : List Item) (ks ks' theirs : List Access) (others : List (Place G)) (i : ℕ) (u : ThreadNo) (w w' : Work G) (ok : Bool) (p : Place G) → u.0 ≡ suc i → RunOf s xs list ks others → slice_get others i ≡ Some (places.Waiting w) → AreAccesses xs 0 ks → IsReady s xs (suc i) w → AllAsBefore ks ks' → AllMet ks w.standing.accesses.items theirs → IsRenewed w w' theirs → Needs w' → objects_in w' ≡ xs → IsBegun u w' ok p → RunOf s xs (list ++ items.Control (controls.Start u ok) ∷ []) ks' (slice_set others i p)
+  begun_goes s xs list ks ks' theirs others i u w w' true (places.Running thread) u_is r at_p mine ready same meets n needs is begun =
+      start_goes s xs list ks ks' theirs others i u w thread u_is r at_p mine (ready_accesses s xs (suc i) w ready) same meets
       (λ h shown. record {
         number = ap (λ (t : ThreadNo). t.0) begun.0 ∙ u_is;
         job = w';
         to_join = begun.1;
         is_of = ap (λ (t : ThreadNo). t.0) n.thread ∙ ready.number;
         scene = ap scene_in n.objects ∙ ready.scene;
-        objects = ap all_in n.objects ∙ ready.objects;
+        objects = is;
         needs = needs;
-        shown = subst (λ (l : List Token). AreShown xs l h) (sym n.tokens) shown;
+        shown = subst (λ (l : List Access). AreShown l h) (sym n.accesses) shown;
       })
-  begun_goes s xs list ks ks' theirs others i u w w' false (places.Waiting kept) u_is r at_p mine ready same meets n needs begun =
-      refusal_goes s xs list ks ks' theirs others i u w kept r at_p mine (ready_tokens s xs (suc i) w ready) same meets
+  begun_goes s xs list ks ks' theirs others i u w w' false (places.Waiting kept) u_is r at_p mine ready same meets n needs is begun =
+      refusal_goes s xs list ks ks' theirs others i u w kept r at_p mine (ready_accesses s xs (suc i) w ready) same meets
       (λ h shown fresh. subst (λ (v : Work G). IsReady s xs (suc i) v) (sym begun) (record {
         number = ap (λ (t : ThreadNo). t.0) n.thread ∙ ready.number;
         scene = ap scene_in n.objects ∙ ready.scene;
-        objects = ap all_in n.objects ∙ ready.objects;
+        objects = is;
         needs = needs;
         h = h;
-        shown = subst (λ (l : List Token). AreShown xs l h) (sym n.tokens) shown;
+        shown = subst (λ (l : List Access). AreShown l h) (sym n.accesses) shown;
         fresh = fresh;
       }))
-  begun_goes s xs list ks ks' theirs others i u w w' ok p u_is r at_p mine ready same meets n needs begun = absurd begun
+  begun_goes s xs list ks ks' theirs others i u w w' ok p u_is r at_p mine ready same meets n needs is begun = absurd begun
 
   begun_may : (u : ThreadNo) (w : Work G) (ok : Bool) (p : Place G) → Needs w → IsBegun u w ok p → MayRun p
   begun_may u w true (places.Running thread) needs begun = if_some Needs (job_to_join thread) w begun.1 needs
@@ -213,24 +274,24 @@ module _ {G : Type 0} where
   begun_steps u w false (places.Waiting kept) begun = refl
   begun_steps u w ok p begun = absurd begun
 
-  pub begun_kept : (r r' : Run G) (u : ThreadNo) (w w' : Work G) (theirs : List Token) (mid : List (Place G)) (ok : Bool) (p : Place G) → IsRun r → IsHere u.0 (places.Waiting w) r.others.items mid → AllAsBefore (all_in r.objects) r.main.tokens.items r'.main.tokens.items → AllMet (all_in r.objects) r.main.tokens.items w.standing.tokens.items theirs → IsRenewed w w' theirs → IsBegun u w' ok p → r'.objects ≡ r.objects → r'.main.thread ≡ r.main.thread → r'.others.items ≡ slice_set mid (u.0 - 1) p → IsKept r'
-  begun_kept r r' u w w' theirs mid ok p run h same meets n begun a b others =
+  pub begun_kept : {xs : List RunObject} (r r' : Run G) (u : ThreadNo) (w w' : Work G) (theirs : List Access) (mid : List (Place G)) (ok : Bool) (p : Place G) → IsRun xs r → IsHere u.0 (places.Waiting w) r.others.items mid → AllAsBefore r.main.accesses.items r'.main.accesses.items → AllMet r.main.accesses.items w.standing.accesses.items theirs → IsRenewed w w' theirs → IsBegun u w' ok p → r'.objects ≡ r.objects → r'.main.thread ≡ r.main.thread → r'.others.items ≡ slice_set mid (u.0 - 1) p → IsKept xs r'
+  begun_kept {xs} r r' u w w' theirs mid ok p run h same meets n begun a b others =
       let ready = waits_here r u w mid run h in
-      let needs = met_needs (scene_in r.objects) (all_in r.objects) (suc (u.0 - 1)) r.main.tokens.items theirs w w' ready run.kept.tokens meets n in
+      let needs = met_needs (scene_in r.objects) xs (suc (u.0 - 1)) r.main.accesses.items theirs w w' ready run.kept.accesses meets n in
       let set_ : r'.others.items ≡ slice_set r.others.items (u.0 - 1) p = others ∙ (ap (λ (l : List (Place G)). slice_set l (u.0 - 1) p) h.is ∙ set_twice r.others.items (u.0 - 1) places.Idle p) in
-      kept_of r r' a b (same_tokens (all_in r.objects) r.main.tokens.items r'.main.tokens.items 0 same run.kept.tokens)
+      kept_of r r' a b (same_accesses xs r.main.accesses.items r'.main.accesses.items 0 same run.kept.accesses)
       (λ i q at_q. may_set r.others.items (u.0 - 1) p (begun_may u w' ok p needs begun) run.kept.may_run i q (ap (λ (l : List (Place G)). slice_get l i) (sym set_) ∙ at_q))
       run.kept
 
-  pub begun_run : (r r' : Run G) (u : ThreadNo) (w w' : Work G) (theirs : List Token) (mid : List (Place G)) (ok : Bool) (p : Place G) → IsRun r → IsHere u.0 (places.Waiting w) r.others.items mid → AllAsBefore (all_in r.objects) r.main.tokens.items r'.main.tokens.items → AllMet (all_in r.objects) r.main.tokens.items w.standing.tokens.items theirs → IsRenewed w w' theirs → IsBegun u w' ok p → r'.objects ≡ r.objects → r'.main.thread ≡ r.main.thread → r'.others.items ≡ slice_set mid (u.0 - 1) p → r'.main.list.items ≡ r.main.list.items ++ items.Control (controls.Start u ok) ∷ [] → IsAt (scene_in r.objects) r'.main → IsRun r'
-  begun_run r r' u w w' theirs mid ok p run h same meets n begun a b others grown at_ =
+  pub begun_run : {xs : List RunObject} (r r' : Run G) (u : ThreadNo) (w w' : Work G) (theirs : List Access) (mid : List (Place G)) (ok : Bool) (p : Place G) → IsRun xs r → IsHere u.0 (places.Waiting w) r.others.items mid → AllAsBefore r.main.accesses.items r'.main.accesses.items → AllMet r.main.accesses.items w.standing.accesses.items theirs → IsRenewed w w' theirs → IsBegun u w' ok p → r'.objects ≡ r.objects → r'.main.thread ≡ r.main.thread → r'.others.items ≡ slice_set mid (u.0 - 1) p → r'.main.list.items ≡ r.main.list.items ++ items.Control (controls.Start u ok) ∷ [] → IsAt (scene_in r.objects) r'.main → IsRun xs r'
+  begun_run {xs} r r' u w w' theirs mid ok p run h same meets n begun a b others grown at_ =
       let ready = waits_here r u w mid run h in
-      let needs = met_needs (scene_in r.objects) (all_in r.objects) (suc (u.0 - 1)) r.main.tokens.items theirs w w' ready run.kept.tokens meets n in
+      let needs = met_needs (scene_in r.objects) xs (suc (u.0 - 1)) r.main.accesses.items theirs w w' ready run.kept.accesses meets n in
       let set_ : r'.others.items ≡ slice_set r.others.items (u.0 - 1) p = others ∙ (ap (λ (l : List (Place G)). slice_set l (u.0 - 1) p) h.is ∙ set_twice r.others.items (u.0 - 1) places.Idle p) in
-      run_of r r' (r.main.list.items ++ items.Control (controls.Start u ok) ∷ []) r'.main.tokens.items (slice_set r.others.items (u.0 - 1) p) run a
+      run_of r r' (r.main.list.items ++ items.Control (controls.Start u ok) ∷ []) r'.main.accesses.items (slice_set r.others.items (u.0 - 1) p) run a
       (begun_kept r r' u w w' theirs mid ok p run h same meets n begun a b others)
       at_ grown refl set_
-      (begun_goes (scene_in r.objects) (all_in r.objects) r.main.list.items r.main.tokens.items r'.main.tokens.items theirs r.others.items (u.0 - 1) u w w' ok p (before_one u h.above) run.goes h.was run.kept.tokens ready same meets n needs begun)
+      (begun_goes (scene_in r.objects) xs r.main.list.items r.main.accesses.items r'.main.accesses.items theirs r.others.items (u.0 - 1) u w w' ok p (before_one u h.above) run.goes h.was run.kept.accesses ready same meets n needs (renewed_objects xs (suc (u.0 - 1)) w w' theirs (met_accesses xs r.main.accesses.items w.standing.accesses.items theirs 0 (suc (u.0 - 1)) run.kept.accesses meets (ready_accesses (scene_in r.objects) xs (suc (u.0 - 1)) w ready)) n) begun)
 
   -- one place goes on, by the steps that it adds
   set_tally : (before now : Tally) (list list' : List Item) (ps ps' : List (Place G)) (i n : ℕ) (p q : Place G) (xs : List Item) → slice_get ps i ≡ Some p → ps' ≡ slice_set ps i q → list' ≡ list ++ xs → steps_at p ≡ 0 → steps_at q ≡ n → IsTallied before now xs n → (base : Tally) → IsTallied base before list (steps_in ps) → IsTallied base now list' (steps_in ps')
@@ -248,17 +309,17 @@ module _ {G : Type 0} where
   -- ---- joins
 
   -- what a thread that was awaited has ended with
-  record IsDone (s : Scene) (xs : List RunObject) (u : ℕ) (thread : Thread (Work G) Ended) (ys : List Item) (ks ks' : List Token) : Type 0 where
-    ended : List Token
-    theirs : AreTokens xs u ended
-    body : (job : Work G) → job_to_join thread ≡ Some job → IsBody s xs u job.standing.tokens.items ys ended
-    takes : AllTakeIn xs ended ks ks'
+  record IsDone (s : Scene) (xs : List RunObject) (u : ℕ) (thread : Thread (Work G) Ended) (ys : List Item) (ks ks' : List Access) : Type 0 where
+    ended : List Access
+    theirs : AreAccesses xs u ended
+    body : (job : Work G) → job_to_join thread ≡ Some job → IsBody s u job.standing.accesses.items ys ended
+    takes : AllTakeIn ended ks ks'
 
-  done_of : (s : Scene) (xs : List RunObject) (u : ℕ) (first : Fronts) (thread : Thread (Work G) Ended) (ys : List Item) (ks ks' : List Token) → IsOff s xs u first thread → IsAwaited s xs thread ys ks ks' → IsDone s xs u thread ys ks ks'
+  done_of : (s : Scene) (xs : List RunObject) (u : ℕ) (first : Fronts) (thread : Thread (Work G) Ended) (ys : List Item) (ks ks' : List Access) → IsOff s xs u first thread → IsAwaited s xs thread ys ks ks' → IsDone s xs u thread ys ks ks'
   done_of s xs u first thread ys ks ks' off a = record {
     ended = a.ended;
-    theirs = subst (λ n. AreTokens xs n a.ended) number a.theirs;
-    body = λ job is. subst (λ (w : Work G). IsBody s xs u w.standing.tokens.items ys a.ended) (same_job a.job job a.to_join is) (subst (λ n. IsBody s xs n a.job.standing.tokens.items ys a.ended) number a.body);
+    theirs = subst (λ n. AreAccesses xs n a.ended) number a.theirs;
+    body = λ job is. subst (λ (w : Work G). IsBody s u w.standing.accesses.items ys a.ended) (same_job a.job job a.to_join is) (subst (λ n. IsBody s n a.job.standing.accesses.items ys a.ended) number a.body);
     takes = a.takes;
   }
     where
@@ -268,15 +329,21 @@ module _ {G : Type 0} where
       number : a.job.standing.thread.0 ≡ u
       number = ap (λ (w : Work G). w.standing.thread.0) (same_job a.job off.job a.to_join off.to_join) ∙ off.is_of
 
-  took_kept : (s : Scene) (xs : List RunObject) (u : ℕ) (thread : Thread (Work G) Ended) (ys : List Item) (ks ks' : List Token) → AreTokens xs 0 ks → IsDone s xs u thread ys ks ks' → AreTokens xs 0 ks'
-  took_kept s xs u thread ys ks ks' mine d = took_tokens xs d.ended ks ks' 0 u d.theirs d.takes mine
+  took_kept : (s : Scene) (xs : List RunObject) (u : ℕ) (thread : Thread (Work G) Ended) (ys : List Item) (ks ks' : List Access) → AreAccesses xs 0 ks → IsDone s xs u thread ys ks ks' → AreAccesses xs 0 ks'
+  took_kept s xs u thread ys ks ks' mine d = took_accesses xs d.ended ks ks' 0 u d.theirs d.takes mine
 
-  pub joined_run : (r r' : Run G) (u : ThreadNo) (thread : Thread (Work G) Ended) (ys : Vec Item) (mid : List (Place G)) → IsRun r → IsHere u.0 (places.Running thread) r.others.items mid → IsAwaited (scene_in r.objects) (all_in r.objects) thread ys.items r.main.tokens.items r'.main.tokens.items → r'.objects ≡ r.objects → IsKept r' → r'.others.items ≡ slice_set mid (u.0 - 1) (places.Ended ys) → r'.main.list.items ≡ r.main.list.items ++ items.Control (controls.Join u) ∷ [] → IsAt (scene_in r.objects) r'.main → IsRun r'
-  joined_run r r' u thread ys mid run h awaited a kept others grown at_ =
+  -- main stands where it stood once it has taken in what a thread ended with
+  pub awaited_at : {xs : List RunObject} (r : Run G) (u : ThreadNo) (thread : Thread (Work G) Ended) (ys : List Item) (ks' : List Access) (mid : List (Place G)) → IsRun xs r → IsHere u.0 (places.Running thread) r.others.items mid → IsAwaited (scene_in r.objects) xs thread ys r.main.accesses.items ks' → StandsAt (scene_in r.objects) 0 ks' r.main.list.items r.main.local
+  awaited_at {xs} r u thread ys ks' mid run h awaited =
+      let d = done_of (scene_in r.objects) xs (suc (u.0 - 1)) (run.goes.first (suc (u.0 - 1))) thread ys r.main.accesses.items ks' (runs_here r (u.0 - 1) thread run h.was) awaited in
+      took_at (scene_in r.objects) xs 0 (suc (u.0 - 1)) d.ended r.main.accesses.items ks' r.main.list.items r.main.local run.kept.accesses d.theirs d.takes (at_zero run)
+
+  pub joined_run : {xs : List RunObject} (r r' : Run G) (u : ThreadNo) (thread : Thread (Work G) Ended) (ys : Vec Item) (mid : List (Place G)) → IsRun xs r → IsHere u.0 (places.Running thread) r.others.items mid → IsAwaited (scene_in r.objects) xs thread ys.items r.main.accesses.items r'.main.accesses.items → r'.objects ≡ r.objects → IsKept xs r' → r'.others.items ≡ slice_set mid (u.0 - 1) (places.Ended ys) → r'.main.list.items ≡ r.main.list.items ++ items.Control (controls.Join u) ∷ [] → IsAt (scene_in r.objects) r'.main → IsRun xs r'
+  joined_run {xs} r r' u thread ys mid run h awaited a kept others grown at_ =
       let set_ : r'.others.items ≡ slice_set r.others.items (u.0 - 1) (places.Ended ys) = others ∙ (ap (λ (l : List (Place G)). slice_set l (u.0 - 1) (places.Ended ys)) h.is ∙ set_twice r.others.items (u.0 - 1) places.Idle (places.Ended ys)) in
-      let d = done_of (scene_in r.objects) (all_in r.objects) (suc (u.0 - 1)) (run.goes.first (suc (u.0 - 1))) thread ys.items r.main.tokens.items r'.main.tokens.items (runs_here r (u.0 - 1) thread run h.was) awaited in
-      run_of r r' (r.main.list.items ++ items.Control (controls.Join u) ∷ []) r'.main.tokens.items (slice_set r.others.items (u.0 - 1) (places.Ended ys)) run a kept at_ grown refl set_
-      (join_goes (scene_in r.objects) (all_in r.objects) r.main.list.items r.main.tokens.items r'.main.tokens.items r.others.items (u.0 - 1) u thread ys d.ended (before_one u h.above) run.goes h.was run.kept.tokens d.theirs d.body d.takes)
+      let d = done_of (scene_in r.objects) xs (suc (u.0 - 1)) (run.goes.first (suc (u.0 - 1))) thread ys.items r.main.accesses.items r'.main.accesses.items (runs_here r (u.0 - 1) thread run h.was) awaited in
+      run_of r r' (r.main.list.items ++ items.Control (controls.Join u) ∷ []) r'.main.accesses.items (slice_set r.others.items (u.0 - 1) (places.Ended ys)) run a kept at_ grown refl set_
+      (join_goes (scene_in r.objects) xs r.main.list.items r.main.accesses.items r'.main.accesses.items r.others.items (u.0 - 1) u thread ys d.ended (before_one u h.above) run.goes h.was run.kept.accesses d.theirs d.body d.takes)
 
   pub joined_tally : (before now : Tally) (list list' : List Item) (ps mid ps' : List (Place G)) (u : ThreadNo) (thread : Thread (Work G) Ended) (ys : Vec Item) → IsHere u.0 (places.Running thread) ps mid → ps' ≡ slice_set mid (u.0 - 1) (places.Ended ys) → list' ≡ list ++ items.Control (controls.Join u) ∷ [] → now.faults ≡ before.faults → now.started ≡ before.started → Raised before.carried now.carried (change_count ys.items) → (base : Tally) → IsTallied base before list (steps_in ps) → IsTallied base now list' (steps_in ps')
   joined_tally before now list list' ps mid ps' u thread ys h others grown a b c =
@@ -285,24 +352,28 @@ module _ {G : Type 0} where
 
   -- ---- after main's end
 
-  pub idle_run : (r r' : Run G) (i : ℕ) (w : Work G) (ws : List Token) → IsRun r → slice_get r.others.items i ≡ Some (places.Waiting w) → AllTakeIn (all_in r.objects) w.standing.tokens.items r.main.tokens.items ws → r'.main.tokens.items ≡ ws → r'.objects ≡ r.objects → r'.main.thread ≡ r.main.thread → r'.main.list ≡ r.main.list → r'.main.local ≡ r.main.local → r'.others.items ≡ slice_set r.others.items i places.Idle → IsRun r'
-  idle_run r r' i w ws run at_p takes is a b c d others =
-      let ready : IsReady (scene_in r.objects) (all_in r.objects) (suc i) w = (run.goes.places i (places.Waiting w) at_p).1 in
-      let theirs = ready_tokens (scene_in r.objects) (all_in r.objects) (suc i) w ready in
-      let mine = took_tokens (all_in r.objects) w.standing.tokens.items r.main.tokens.items ws 0 (suc i) theirs takes run.kept.tokens in
-      let kept : IsKept r' = kept_of r r' a b (subst (λ (l : List Token). AreTokens (all_in r.objects) 0 l) (sym is) mine)
+  pub idle_run : {xs : List RunObject} (r r' : Run G) (i : ℕ) (w : Work G) (ws : List Access) → IsRun xs r → slice_get r.others.items i ≡ Some (places.Waiting w) → AllTakeIn w.standing.accesses.items r.main.accesses.items ws → r'.main.accesses.items ≡ ws → r'.objects ≡ r.objects → r'.main.thread ≡ r.main.thread → r'.main.list ≡ r.main.list → r'.main.local ≡ r.main.local → r'.others.items ≡ slice_set r.others.items i places.Idle → IsRun xs r'
+  idle_run {xs} r r' i w ws run at_p takes is a b c d others =
+      let ready : IsReady (scene_in r.objects) xs (suc i) w = (run.goes.places i (places.Waiting w) at_p).1 in
+      let theirs = ready_accesses (scene_in r.objects) xs (suc i) w ready in
+      let mine = took_accesses xs w.standing.accesses.items r.main.accesses.items ws 0 (suc i) theirs takes run.kept.accesses in
+      let kept : IsKept xs r' = kept_of r r' a b (subst (λ (l : List Access). AreAccesses xs 0 l) (sym is) mine)
       (λ j q at_q. may_set r.others.items i places.Idle tt run.kept.may_run j q (ap (λ (l : List (Place G)). slice_get l j) (sym others) ∙ at_q)) run.kept in
-      let at_ : IsAt (scene_in r.objects) r'.main = rw (b, c, d) run.at_ in
+      let at_ws = took_at (scene_in r.objects) xs 0 (suc i) w.standing.accesses.items r.main.accesses.items ws r.main.list.items r.main.local run.kept.accesses theirs takes (at_zero run) in
+      let zero_ : r'.main.thread.0 ≡ 0 = ap (λ (t : ThreadNo). t.0) b ∙ run.kept.thread in
+      let at_ : IsAt (scene_in r.objects) r'.main = rw (zero_, is, c, d) at_ws in
       run_of r r' r.main.list.items ws (slice_set r.others.items i places.Idle) run a kept at_ (ap (λ (v : Vec Item). v.items) c) is others
-      (idle_goes (scene_in r.objects) (all_in r.objects) r.main.list.items r.main.tokens.items ws r.others.items i w run.goes at_p run.kept.tokens theirs takes)
+      (idle_goes (scene_in r.objects) xs r.main.list.items r.main.accesses.items ws r.others.items i w run.goes at_p run.kept.accesses theirs takes)
 
-  pub late_run : (r r' : Run G) (i : ℕ) (thread : Thread (Work G) Ended) (ys : Vec Item) → IsRun r → slice_get r.others.items i ≡ Some (places.Running thread) → IsAwaited (scene_in r.objects) (all_in r.objects) thread ys.items r.main.tokens.items r'.main.tokens.items → r'.objects ≡ r.objects → IsKept r' → r'.main.list ≡ r.main.list → r'.main.local ≡ r.main.local → r'.others.items ≡ slice_set r.others.items i (places.Ended ys) → IsRun r'
-  late_run r r' i thread ys run at_p awaited a kept c d others =
+  pub late_run : {xs : List RunObject} (r r' : Run G) (i : ℕ) (thread : Thread (Work G) Ended) (ys : Vec Item) → IsRun xs r → slice_get r.others.items i ≡ Some (places.Running thread) → IsAwaited (scene_in r.objects) xs thread ys.items r.main.accesses.items r'.main.accesses.items → r'.objects ≡ r.objects → IsKept xs r' → r'.main.list ≡ r.main.list → r'.main.local ≡ r.main.local → r'.others.items ≡ slice_set r.others.items i (places.Ended ys) → IsRun xs r'
+  late_run {xs} r r' i thread ys run at_p awaited a kept c d others =
       let b = same_thread r'.main.thread r.main.thread kept.thread run.kept.thread in
-      let e = done_of (scene_in r.objects) (all_in r.objects) (suc i) (run.goes.first (suc i)) thread ys.items r.main.tokens.items r'.main.tokens.items (runs_here r i thread run at_p) awaited in
-      let at_ : IsAt (scene_in r.objects) r'.main = rw (b, c, d) run.at_ in
-      run_of r r' r.main.list.items r'.main.tokens.items (slice_set r.others.items i (places.Ended ys)) run a kept at_ (ap (λ (v : Vec Item). v.items) c) refl others
-      (late_goes (scene_in r.objects) (all_in r.objects) r.main.list.items r.main.tokens.items r'.main.tokens.items r.others.items i thread ys e.ended run.goes at_p run.kept.tokens e.theirs e.body e.takes)
+      let e = done_of (scene_in r.objects) xs (suc i) (run.goes.first (suc i)) thread ys.items r.main.accesses.items r'.main.accesses.items (runs_here r i thread run at_p) awaited in
+      let at_ks = took_at (scene_in r.objects) xs 0 (suc i) e.ended r.main.accesses.items r'.main.accesses.items r.main.list.items r.main.local run.kept.accesses e.theirs e.takes (at_zero run) in
+      let zero_ : r'.main.thread.0 ≡ 0 = ap (λ (t : ThreadNo). t.0) b ∙ run.kept.thread in
+      let at_ : IsAt (scene_in r.objects) r'.main = rw (zero_, c, d) at_ks in
+      run_of r r' r.main.list.items r'.main.accesses.items (slice_set r.others.items i (places.Ended ys)) run a kept at_ (ap (λ (v : Vec Item). v.items) c) refl others
+      (late_goes (scene_in r.objects) xs r.main.list.items r.main.accesses.items r'.main.accesses.items r.others.items i thread ys e.ended run.goes at_p run.kept.accesses e.theirs e.body e.takes)
 
   -- a place that had no steps has so many now, and main's list is as it was
   pub later_tally : (before now : Tally) (list list' : List Item) (ps ps' : List (Place G)) (i n : ℕ) (p q : Place G) → slice_get ps i ≡ Some p → ps' ≡ slice_set ps i q → list' ≡ list → steps_at p ≡ 0 → steps_at q ≡ n → now.faults ≡ before.faults → now.started ≡ before.started → Raised before.carried now.carried n → (base : Tally) → IsTallied base before list (steps_in ps) → IsTallied base now list' (steps_in ps')
@@ -315,34 +386,36 @@ module _ {G : Type 0} where
   pub record HasGiven (s : Scene) (xs : List RunObject) (thread : Thread (Work G) Ended) (e : Ended) : Type 0 where
     pub job : Work G
     pub to_join : job_to_join thread ≡ Some job
-    pub theirs : AreTokens xs job.standing.thread.0 e.tokens.items
-    pub body : e.failed ≡ false → IsBody s xs job.standing.thread.0 job.standing.tokens.items e.list.items e.tokens.items
+    pub theirs : AreAccesses xs job.standing.thread.0 e.accesses.items
+    pub body : e.failed ≡ false → IsBody s job.standing.thread.0 job.standing.accesses.items e.list.items e.accesses.items
 
-  given_by : (s : Scene) (xs : List RunObject) (thread : Thread (Work G) Ended) (e : Ended) (w : Work G) → job_to_join thread ≡ Some w → (scene_in w.objects ≡ s) × (all_in w.objects ≡ xs) → Gives w e → HasGiven s xs thread e
+  given_by : (s : Scene) (xs : List RunObject) (thread : Thread (Work G) Ended) (e : Ended) (w : Work G) → job_to_join thread ≡ Some w → (scene_in w.objects ≡ s) × (objects_in w ≡ xs) → Gives w e → HasGiven s xs thread e
   given_by s xs thread e w is same g =
       let number : e.thread.0 ≡ w.standing.thread.0 = ap (λ (t : ThreadNo). t.0) g.thread in
       record {
         job = w;
         to_join = is;
-        theirs = subst (λ (os : List RunObject). AreTokens os w.standing.thread.0 e.tokens.items) same.1 (subst (λ n. AreTokens (all_in w.objects) n e.tokens.items) number g.tokens);
-        body = λ whole. subst (λ (z : Scene). IsBody z xs w.standing.thread.0 w.standing.tokens.items e.list.items e.tokens.items) same.0 (subst (λ (os : List RunObject). IsBody (scene_in w.objects) os w.standing.thread.0 w.standing.tokens.items e.list.items e.tokens.items) same.1 (subst (λ n. IsBody (scene_in w.objects) (all_in w.objects) n w.standing.tokens.items e.list.items e.tokens.items) number (g.body whole)));
+        theirs = subst (λ (os : List RunObject). AreAccesses os w.standing.thread.0 e.accesses.items) same.1 (subst (λ n. AreAccesses (objects_in w) n e.accesses.items) number g.accesses);
+        body = λ whole. subst (λ (z : Scene). IsBody z w.standing.thread.0 w.standing.accesses.items e.list.items e.accesses.items) same.0 (subst (λ n. IsBody (scene_in w.objects) n w.standing.accesses.items e.list.items e.accesses.items) number (g.body whole));
       }
 
-  pub given_of : (s : Scene) (xs : List RunObject) (thread : Thread (Work G) Ended) (e : Ended) (result : Result Ended Errc) (fault : Errc) → result ≡ Ok e → (job_to_join thread ≡ None → result ≡ Err fault) → IfSome (job_to_join thread) (λ w. Needs w × (scene_in w.objects ≡ s) × (all_in w.objects ≡ xs)) → IfSome (job_to_join thread) (λ w. Gives w e) → HasGiven s xs thread e
-  given_of s xs thread e result fault is none_ owed gives = go (job_to_join thread) refl none_ owed gives
+  pub given_of : (s : Scene) (xs : List RunObject) (thread : Thread (Work G) Ended) (e : Ended) (result : Result Ended Errc) (fault : Errc) → result ≡ Ok e → (job_to_join thread ≡ None → result ≡ Err fault) → IfSome (job_to_join thread) (λ w. Needs w × (scene_in w.objects ≡ s) × (objects_in w ≡ xs)) → IfSome (job_to_join thread) (λ w. Gives w e) → HasGiven s xs thread e
+  given_of s xs thread e result fault is none_ owed gives = go (is_some_or_none (job_to_join thread))
     where
-      go : (o : Option (Work G)) → job_to_join thread ≡ o → (o ≡ None → result ≡ Err fault) → IfSome o (λ w. Needs w × (scene_in w.objects ≡ s) × (all_in w.objects ≡ xs)) → IfSome o (λ w. Gives w e) → HasGiven s xs thread e
-      go None there none_ owed gives = let err : result ≡ Err fault = none_ refl in cc (err, is)
-      go (Some w) there none_ owed gives = given_by s xs thread e w there (owed.1, owed.2) gives
+      go : (job_to_join thread ≡ None) ⊎ ((w : Work G) × (job_to_join thread ≡ Some w)) → HasGiven s xs thread e
+      go (inl gone) = absurd (two_ways result e fault is (none_ gone))
+      go (inr a) =
+          let known = from_some (λ (w : Work G). Needs w × (scene_in w.objects ≡ s) × (objects_in w ≡ xs)) (job_to_join thread) a.0 a.1 owed in
+          given_by s xs thread e a.0 a.1 (known.1, known.2) (from_some (λ (w : Work G). Gives w e) (job_to_join thread) a.0 a.1 gives)
 
   -- main has taken in what the thread gave
-  pub given_kept : (r r' : Run G) (thread : Thread (Work G) Ended) (e : Ended) (ws : List Token) → IsKept r → HasGiven (scene_in r.objects) (all_in r.objects) thread e → AllTakeIn (all_in r.objects) e.tokens.items r.main.tokens.items ws → r'.main.tokens.items ≡ ws → r'.objects ≡ r.objects → r'.main.thread ≡ r.main.thread → r'.others.items ≡ r.others.items → IsKept r'
-  given_kept r r' thread e ws kept g takes is a b d =
-      kept_of r r' a b (subst (λ (l : List Token). AreTokens (all_in r.objects) 0 l) (sym is) (took_tokens (all_in r.objects) e.tokens.items r.main.tokens.items ws 0 g.job.standing.thread.0 g.theirs takes kept.tokens))
+  pub given_kept : {xs : List RunObject} (r r' : Run G) (thread : Thread (Work G) Ended) (e : Ended) (ws : List Access) → IsKept xs r → HasGiven (scene_in r.objects) xs thread e → AllTakeIn e.accesses.items r.main.accesses.items ws → r'.main.accesses.items ≡ ws → r'.objects ≡ r.objects → r'.main.thread ≡ r.main.thread → r'.others.items ≡ r.others.items → IsKept xs r'
+  given_kept {xs} r r' thread e ws kept g takes is a b d =
+      kept_of r r' a b (subst (λ (l : List Access). AreAccesses xs 0 l) (sym is) (took_accesses xs e.accesses.items r.main.accesses.items ws 0 g.job.standing.thread.0 g.theirs takes kept.accesses))
       (λ i p at_p. kept.may_run i p (ap (λ (l : List (Place G)). slice_get l i) (sym d) ∙ at_p)) kept
 
-  pub given_awaited : (s : Scene) (xs : List RunObject) (thread : Thread (Work G) Ended) (e : Ended) (ks ks' ws : List Token) → HasGiven s xs thread e → e.failed ≡ false → AllTakeIn xs e.tokens.items ks ws → ks' ≡ ws → IsAwaited s xs thread e.list.items ks ks'
-  given_awaited s xs thread e ks ks' ws g whole takes is = record { job = g.job; to_join = g.to_join; ended = e.tokens.items; theirs = g.theirs; body = g.body whole; takes = subst (λ (l : List Token). AllTakeIn xs e.tokens.items ks l) (sym is) takes }
+  pub given_awaited : (s : Scene) (xs : List RunObject) (thread : Thread (Work G) Ended) (e : Ended) (ks ks' ws : List Access) → HasGiven s xs thread e → e.failed ≡ false → AllTakeIn e.accesses.items ks ws → ks' ≡ ws → IsAwaited s xs thread e.list.items ks ks'
+  given_awaited s xs thread e ks ks' ws g whole takes is = record { job = g.job; to_join = g.to_join; ended = e.accesses.items; theirs = g.theirs; body = g.body whole; takes = subst (λ (l : List Access). AllTakeIn e.accesses.items ks l) (sym is) takes }
 
   -- ---- places by their index
 
@@ -350,27 +423,27 @@ module _ {G : Type 0} where
   place_was ps i a b p low is same known = subst (λ (z : Place G). slice_get ps i ≡ Some z) (sym same ∙ known) (read_at ps i a low is)
 
   -- one place was set
-  pub set_kept : (r r' : Run G) (i : ℕ) (q : Place G) → IsKept r → MayRun q → r'.objects ≡ r.objects → r'.main.thread ≡ r.main.thread → r'.main.tokens.items ≡ r.main.tokens.items → r'.others.items ≡ slice_set r.others.items i q → IsKept r'
-  set_kept r r' i q kept may a b c d =
-      kept_of r r' a b (subst (λ (l : List Token). AreTokens (all_in r.objects) 0 l) (sym c) kept.tokens)
+  pub set_kept : {xs : List RunObject} (r r' : Run G) (i : ℕ) (q : Place G) → IsKept xs r → MayRun q → r'.objects ≡ r.objects → r'.main.thread ≡ r.main.thread → r'.main.accesses.items ≡ r.main.accesses.items → r'.others.items ≡ slice_set r.others.items i q → IsKept xs r'
+  set_kept {xs} r r' i q kept may a b c d =
+      kept_of r r' a b (subst (λ (l : List Access). AreAccesses xs 0 l) (sym c) kept.accesses)
       (λ j p at_p. may_set r.others.items i q may kept.may_run j p (ap (λ (l : List (Place G)). slice_get l j) (sym d) ∙ at_p)) kept
 
   idle_may : (q : Place G) → q ≡ places.Idle → MayRun q
   idle_may q is = subst (λ (z : Place G). MayRun z) (sym is) tt
 
-  pub left_kept : (r r' : Run G) (i : ℕ) (q : Place G) → IsKept r → q ≡ places.Idle → r'.objects ≡ r.objects → r'.main.thread ≡ r.main.thread → r'.main.tokens.items ≡ r.main.tokens.items → r'.others.items ≡ slice_set r.others.items i q → IsKept r'
-  left_kept r r' i q kept is = set_kept r r' i q kept (idle_may q is)
+  pub left_kept : {xs : List RunObject} (r r' : Run G) (i : ℕ) (q : Place G) → IsKept xs r → q ≡ places.Idle → r'.objects ≡ r.objects → r'.main.thread ≡ r.main.thread → r'.main.accesses.items ≡ r.main.accesses.items → r'.others.items ≡ slice_set r.others.items i q → IsKept xs r'
+  left_kept {xs} r r' i q kept is = set_kept r r' i q kept (idle_may q is)
 
   -- the place of a thread was left, whichever it was
-  pub any_left_kept : (r r' : Run G) (u : ThreadNo) (result : Option (Place G)) → IsKept r → (r'.objects ≡ r.objects) × (r'.main ≡ r.main) → MatchOption result (r'.others ≡ r.others) (λ p. IsHere u.0 p r.others.items r'.others.items) → IsKept r'
-  any_left_kept r r' u None kept same h = same_kept r r' same.0 (ap (λ (x : Standing). x.thread) same.1) (ap (λ (x : Standing). x.tokens.items) same.1) (ap (λ (v : Vec (Place G)). v.items) h) kept
-  any_left_kept r r' u (Some p) kept same h = set_kept r r' (u.0 - 1) places.Idle kept tt same.0 (ap (λ (x : Standing). x.thread) same.1) (ap (λ (x : Standing). x.tokens.items) same.1) h.is
+  pub any_left_kept : {xs : List RunObject} (r r' : Run G) (u : ThreadNo) (result : Option (Place G)) → IsKept xs r → (r'.objects ≡ r.objects) × (r'.main ≡ r.main) → MatchOption result (r'.others ≡ r.others) (λ p. IsHere u.0 p r.others.items r'.others.items) → IsKept xs r'
+  any_left_kept {xs} r r' u None kept same h = same_kept r r' same.0 (ap (λ (x : Standing). x.thread) same.1) (ap (λ (x : Standing). x.accesses.items) same.1) (ap (λ (v : Vec (Place G)). v.items) h) kept
+  any_left_kept {xs} r r' u (Some p) kept same h = set_kept r r' (u.0 - 1) places.Idle kept tt same.0 (ap (λ (x : Standing). x.thread) same.1) (ap (λ (x : Standing). x.accesses.items) same.1) h.is
 
-  pub waits_at : (r : Run G) (i : ℕ) (w : Work G) → IsRun r → slice_get r.others.items i ≡ Some (places.Waiting w) → IsReady (scene_in r.objects) (all_in r.objects) (suc i) w
-  waits_at r i w run at_p = (run.goes.places i (places.Waiting w) at_p).1
+  pub waits_at : {xs : List RunObject} (r : Run G) (i : ℕ) (w : Work G) → IsRun xs r → slice_get r.others.items i ≡ Some (places.Waiting w) → IsReady (scene_in r.objects) xs (suc i) w
+  waits_at {xs} r i w run at_p = (run.goes.places i (places.Waiting w) at_p).1
 
-  pub waiting_tokens : (r : Run G) (i : ℕ) (w : Work G) (os : List RunObject) → IsRun r → slice_get r.others.items i ≡ Some (places.Waiting w) → os ≡ all_in r.objects → (x : ℕ) × AreTokens os x w.standing.tokens.items
-  waiting_tokens r i w os run at_p is = (suc i, subst (λ (l : List RunObject). AreTokens l (suc i) w.standing.tokens.items) (sym is) (ready_tokens (scene_in r.objects) (all_in r.objects) (suc i) w (waits_at r i w run at_p)))
+  pub waiting_accesses : {xs : List RunObject} (r : Run G) (i : ℕ) (w : Work G) → IsRun xs r → slice_get r.others.items i ≡ Some (places.Waiting w) → AreAccesses xs (suc i) w.standing.accesses.items
+  waiting_accesses {xs} r i w run at_p = ready_accesses (scene_in r.objects) xs (suc i) w (waits_at r i w run at_p)
 
   -- a place that was set back
   pub set_same : (ps : List (Place G)) (i : ℕ) (a b : Place G) → slice_get ps i ≡ Some a → b ≡ a → slice_set ps i b ≡ ps

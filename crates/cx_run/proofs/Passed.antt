@@ -1,52 +1,53 @@
--- How far a pass over all tokens has come.
+-- How far a pass over all accesses has come.
 use Rattle.std.proofs.Common.{◌≡◌, ℕ, zero, suc, ◌+◌, ◌<◌, ◌≤◌, List, [], ◌∷◌, length, get_or, set, slice_get, slice_set, Option, Some, refl, sym, ap, ◌∙◌, subst, arith}
 use Rattle.std.specs.List.{enumerate_from}
-use Rattle.cx_work.specs.declared.objects.RunObject.{RunObject}
-use Rattle.cx_work.specs.declared.token.Token.{Token}
-use Rattle.cx_work.specs.Tokens.{AreTokens}
-use Rattle.cx_run.specs.Handing.{IsATokenOf, TakesIn, EachGoes, AllTakeIn}
+use Rattle.cx_kinds.specs.declared.access.Access.{Access}
+use Rattle.cx_kinds.specs.Accesses.{RunObject, object_of, Knows}
+use Rattle.cx_kinds.specs.Sights.{IsSeen}
+use Rattle.cx_work.specs.Accesses.{IsAccess, AreAccesses}
+use Rattle.cx_run.specs.Handing.{TakesIn, EachGoes, AllTakeIn}
+use Rattle.cx_run.proofs.Accesses.{at_same}
 use Rattle.cx_run.proofs.Keeping.{Stands, here, elsewhere, get_set, length_set}
 
 -- those below n have gone so, and the others are as they were
-pub record GoneSoFar (xs : List RunObject) (ks ks' : List Token) (P : ℕ → RunObject → Token → Token → Type 0) (n : ℕ) : Type 0 where
+pub record GoneSoFar (ks ks' : List Access) (P : ℕ → Access → Access → Type 0) (n : ℕ) : Type 0 where
   pub count : length ks' ≡ length ks
-  pub gone : (o : ℕ) (x : RunObject) (k k' : Token) → o < n → slice_get xs o ≡ Some x → slice_get ks o ≡ Some k → slice_get ks' o ≡ Some k' → P o x k k'
+  pub gone : (o : ℕ) (k k' : Access) → o < n → slice_get ks o ≡ Some k → slice_get ks' o ≡ Some k' → P o k k'
   pub left : (o : ℕ) → n ≤ o → slice_get ks' o ≡ slice_get ks o
 
-pub none_gone : (xs : List RunObject) (ks : List Token) (P : ℕ → RunObject → Token → Token → Type 0) → GoneSoFar xs ks ks P 0
-none_gone xs ks P = record { count = refl; gone = λ o x k k' low. absurd (omega (arith, low)); left = λ o high. refl }
+pub none_gone : (ks : List Access) (P : ℕ → Access → Access → Type 0) → GoneSoFar ks ks P 0
+none_gone ks P = record { count = refl; gone = λ o k k' low. absurd (omega (arith, low)); left = λ o high. refl }
 
 pub is_one : {A : Type 0} (o : Option A) (x y : A) → o ≡ Some x → o ≡ Some y → x ≡ y
 is_one o x y h k = let same : Some x ≡ Some y = sym h ∙ k in cc
 
-pub one_gone : (xs : List RunObject) (ks ks' : List Token) (P : ℕ → RunObject → Token → Token → Type 0) (n : ℕ) (x : RunObject) (k k' : Token) → GoneSoFar xs ks ks' P n → slice_get xs n ≡ Some x → slice_get ks n ≡ Some k → P n x k k' → GoneSoFar xs ks (slice_set ks' n k') P (n + 1)
-one_gone xs ks ks' P n x k k' so_far at_x at_k goes = record {
+pub one_gone : (ks ks' : List Access) (P : ℕ → Access → Access → Type 0) (n : ℕ) (k k' : Access) → GoneSoFar ks ks' P n → slice_get ks n ≡ Some k → P n k k' → GoneSoFar ks (slice_set ks' n k') P (n + 1)
+one_gone ks ks' P n k k' so_far at_k goes = record {
   count = length_set ks' n k' ∙ so_far.count;
-  gone = λ o y l l' low at_y at_l at_l'. go o y l l' low at_y at_l (get_set ks' n k' o l' at_l');
+  gone = λ o l l' low at_l at_l'. go o l l' low at_l (get_set ks' n k' o l' at_l');
   left = λ o high. still ks' n k' o high ∙ so_far.left o (omega (arith, high));
 }
   where
-    go : (o : ℕ) (y : RunObject) (l l' : Token) → o < n + 1 → slice_get xs o ≡ Some y → slice_get ks o ≡ Some l → Stands ks' n k' o l' → P o y l l'
-    go o y l l' low at_y at_l (here same is) =
-        let x_is : x ≡ y = is_one (slice_get xs o) x y (subst (λ m. slice_get xs m ≡ Some x) (sym same) at_x) at_y in
+    go : (o : ℕ) (l l' : Access) → o < n + 1 → slice_get ks o ≡ Some l → Stands ks' n k' o l' → P o l l'
+    go o l l' low at_l (here same is) =
         let k_is : k ≡ l = is_one (slice_get ks o) k l (subst (λ m. slice_get ks m ≡ Some k) (sym same) at_k) at_l in
-        subst (λ m. P m y l l') (sym same) (subst (λ (z : RunObject). P n z l l') x_is (subst (λ (z : Token). P n x z l') k_is (subst (λ (z : Token). P n x k z) is goes)))
-    go o y l l' low at_y at_l (elsewhere apart at_l') = so_far.gone o y l l' (omega (arith, low, apart)) at_y at_l at_l'
+        subst (λ m. P m l l') (sym same) (subst (λ (z : Access). P n z l') k_is (subst (λ (z : Access). P n k z) is goes))
+    go o l l' low at_l (elsewhere apart at_l') = so_far.gone o l l' (omega (arith, low, apart)) at_l at_l'
 
-    still : (vs : List Token) (i : ℕ) (v : Token) (o : ℕ) → i + 1 ≤ o → slice_get (slice_set vs i v) o ≡ slice_get vs o
+    still : (vs : List Access) (i : ℕ) (v : Access) (o : ℕ) → i + 1 ≤ o → slice_get (slice_set vs i v) o ≡ slice_get vs o
     still [] i v o high = refl
     still (w ∷ ws) zero v zero high = absurd (omega (arith, high))
     still (w ∷ ws) zero v (suc o) high = refl
     still (w ∷ ws) (suc i) v zero high = absurd (omega (arith, high))
     still (w ∷ ws) (suc i) v (suc o) high = still ws i v o (omega (arith, high))
 
-pub all_gone : (xs : List RunObject) (ks ks' : List Token) (P : ℕ → RunObject → Token → Token → Type 0) (n : ℕ) → GoneSoFar xs ks ks' P n → length ks ≤ n → EachGoes xs ks ks' P
-all_gone xs ks ks' P n so_far all_ = record {
+pub all_gone : (ks ks' : List Access) (P : ℕ → Access → Access → Type 0) (n : ℕ) → GoneSoFar ks ks' P n → length ks ≤ n → EachGoes ks ks' P
+all_gone ks ks' P n so_far all_ = record {
   count = so_far.count;
-  each = λ o x k k' at_x at_k at_k'. let low = below ks o k at_k in so_far.gone o x k k' (omega (arith, low, all_)) at_x at_k at_k';
+  each = λ o k k' at_k at_k'. let low = below ks o k at_k in so_far.gone o k k' (omega (arith, low, all_)) at_k at_k';
 }
   where
-    below : (vs : List Token) (o : ℕ) (v : Token) → slice_get vs o ≡ Some v → o < length vs
+    below : (vs : List Access) (o : ℕ) (v : Access) → slice_get vs o ≡ Some v → o < length vs
     below [] o v h = cc h
     below (w ∷ ws) zero v h = omega arith
     below (w ∷ ws) (suc o) v h = omega (arith, below ws o v h)
@@ -64,14 +65,28 @@ got_at (x ∷ ys) zero d h = refl
 got_at (x ∷ ys) (suc k) d h = got_at ys k d (omega (arith, h))
 
 -- a place that wasn't come to has what stood there
-pub was_at : (xs : List RunObject) (ks ks' : List Token) (P : ℕ → RunObject → Token → Token → Type 0) (n : ℕ) (d : Token) → GoneSoFar xs ks ks' P n → n < length ks → slice_get ks n ≡ Some (get_or ks' n d)
-was_at xs ks ks' P n d so_far low = let many = so_far.count in sym (so_far.left n (omega arith)) ∙ got_at ks' n d (omega (arith, low, many))
+pub was_at : (ks ks' : List Access) (P : ℕ → Access → Access → Type 0) (n : ℕ) (d : Access) → GoneSoFar ks ks' P n → n < length ks → slice_get ks n ≡ Some (get_or ks' n d)
+was_at ks ks' P n d so_far low = let many = so_far.count in sym (so_far.left n (omega arith)) ∙ got_at ks' n d (omega (arith, low, many))
 
--- the token at a place that wasn't come to is still one of its object
-pub still_token : (xs : List RunObject) (ks ks' : List Token) (P : ℕ → RunObject → Token → Token → Type 0) (n : ℕ) (x : RunObject) (d : Token) → (t : ℕ) × AreTokens xs t ks → GoneSoFar xs ks ks' P n → n < length xs → x ≡ get_or xs n x → IsATokenOf x (get_or ks' n d)
-still_token xs ks ks' P n x d are so_far low is =
-    let many = are.1.count in
-    (are.0, are.1.each n x (get_or ks' n d) (read_at xs n x low is) (was_at xs ks ks' P n d so_far (omega (arith, low, many))))
+-- the access at a place that wasn't come to is still one to its object
+pub record IsStill (xs : List RunObject) (n : ℕ) (k : Access) : Type 0 where
+  pub object : RunObject
+  pub there : slice_get xs n ≡ Some object
+  pub thread : ℕ
+  pub is : IsAccess object thread k
+
+pub still_access : (xs : List RunObject) (ks ks' : List Access) (P : ℕ → Access → Access → Type 0) (n : ℕ) (d : Access) → (t : ℕ) × AreAccesses xs t ks → GoneSoFar ks ks' P n → n < length ks → IsStill xs n (get_or ks' n d)
+still_access xs ks ks' P n d are so_far low =
+    let at_k = was_at ks ks' P n d so_far low in
+    let x = at_same ks xs n (get_or ks' n d) are.1.count at_k in
+    record { object = x.0; there = x.1; thread = are.0; is = are.1.each n x.0 (get_or ks' n d) x.1 at_k }
+
+pub seen_here : (xs : List RunObject) (n : ℕ) (k : Access) → IsStill xs n k → IsSeen (Knows k)
+seen_here xs n k s = record { view = s.is.view; seen = s.is.seen }
+
+-- two accesses at one place are to one object
+pub same_object : (xs : List RunObject) (n : ℕ) (k j : Access) → IsStill xs n k → IsStill xs n j → object_of k ≡ object_of j
+same_object xs n k j a b = a.is.object ∙ (is_one (slice_get xs n) a.object b.object a.there b.there ∙ sym b.is.object)
 
 -- an item of a list that is counted
 pub counted_at : {A : Type 0} (ys : List A) (n k : ℕ) (p : ℕ × A) → k < length (enumerate_from n ys) → p ≡ get_or (enumerate_from n ys) k p → (p.0 ≡ n + k) × (slice_get ys k ≡ Some p.1)
@@ -99,34 +114,34 @@ turn_is ys n i y low is =
     let long = long_counted ys 0 in
     record { number = omega (arith, number); there = c.1; low = omega (arith, low, long) }
 
--- the token to come, and the other one that comes with it
-pub next_token : (xs : List RunObject) (ks ks' others : List Token) (P : ℕ → RunObject → Token → Token → Type 0) (n i : ℕ) (x : RunObject) (d y : Token) → (t : ℕ) × AreTokens xs t ks → (u : ℕ) × AreTokens xs u others → GoneSoFar xs ks ks' P n → IsTurn others n i y → x ≡ get_or xs i x → IsATokenOf x (get_or ks' i d)
-next_token xs ks ks' others P n i x d y are theirs so_far turn is =
-    let low = turn.low in
-    let many = theirs.1.count in
-    subst (λ m. IsATokenOf x (get_or ks' m d)) (sym turn.number) (still_token xs ks ks' P n x d are so_far (omega (arith, low, many)) (subst (λ m. x ≡ get_or xs m x) turn.number is))
+-- the other access that comes next
+pub next_other : (xs : List RunObject) (others : List Access) (n i : ℕ) (y : Access) → (u : ℕ) × AreAccesses xs u others → IsTurn others n i y → IsStill xs i y
+next_other xs others n i y theirs turn =
+    let x = at_same others xs n y theirs.1.count turn.there in
+    subst (λ m. IsStill xs m y) (sym turn.number) (record { object = x.0; there = x.1; thread = theirs.0; is = theirs.1.each n x.0 y x.1 turn.there })
 
-pub next_other : (xs : List RunObject) (others : List Token) (n i : ℕ) (x : RunObject) (y : Token) → (u : ℕ) × AreTokens xs u others → IsTurn others n i y → x ≡ get_or xs i x → IsATokenOf x y
-next_other xs others n i x y theirs turn is =
-    let low = turn.low in
-    let many = theirs.1.count in
-    (theirs.0, theirs.1.each n x y (read_at xs n x (omega (arith, low, many)) (subst (λ m. x ≡ get_or xs m x) turn.number is)) turn.there)
-
--- one more was taken in
-pub one_taken : (xs : List RunObject) (ks ks' others : List Token) (n m i : ℕ) (x : RunObject) (d y v : Token) → (t : ℕ) × AreTokens xs t ks → (u : ℕ) × AreTokens xs u others → GoneSoFar xs ks ks' (λ o x k k'. (other : Token) → slice_get others o ≡ Some other → TakesIn x other k k') n → IsTurn others n i y → x ≡ get_or xs i x → TakesIn x y (get_or ks' i d) v → m ≡ n + 1 → GoneSoFar xs ks (set ks' i v) (λ o x k k'. (other : Token) → slice_get others o ≡ Some other → TakesIn x other k k') m
-one_taken xs ks ks' others n m i x d y v are theirs so_far turn is takes more =
+-- and the access to come with it
+pub next_access : (xs : List RunObject) (ks ks' others : List Access) (P : ℕ → Access → Access → Type 0) (n i : ℕ) (d y : Access) → (t : ℕ) × AreAccesses xs t ks → (u : ℕ) × AreAccesses xs u others → GoneSoFar ks ks' P n → IsTurn others n i y → IsStill xs i (get_or ks' i d)
+next_access xs ks ks' others P n i d y are theirs so_far turn =
     let low = turn.low in
     let many = theirs.1.count in
     let mine = are.1.count in
-    let at_x = read_at xs n x (omega (arith, low, many)) (subst (λ j. x ≡ get_or xs j x) turn.number is) in
-    let at_k = was_at xs ks ks' (λ o x k k'. (other : Token) → slice_get others o ≡ Some other → TakesIn x other k k') n d so_far (omega (arith, low, many, mine)) in
-    let takes' : TakesIn x y (get_or ks' n d) v = subst (λ j. TakesIn x y (get_or ks' j d) v) turn.number takes in
-    rw (more, turn.number) (one_gone xs ks ks' (λ o x k k'. (other : Token) → slice_get others o ≡ Some other → TakesIn x other k k') n x (get_or ks' n d) v so_far at_x at_k
-    (λ other at_other. subst (λ (z : Token). TakesIn x z (get_or ks' n d) v) (is_one (slice_get others n) y other turn.there at_other) takes'))
+    subst (λ m. IsStill xs m (get_or ks' m d)) (sym turn.number) (still_access xs ks ks' P n d are so_far (omega (arith, low, many, mine)))
 
-pub all_taken : (xs : List RunObject) (ks ks' others : List Token) (n : ℕ) → (t : ℕ) × AreTokens xs t ks → (u : ℕ) × AreTokens xs u others → GoneSoFar xs ks ks' (λ o x k k'. (other : Token) → slice_get others o ≡ Some other → TakesIn x other k k') n → n ≡ length (enumerate_from 0 others) → AllTakeIn xs others ks ks'
+-- one more was taken in
+pub one_taken : (xs : List RunObject) (ks ks' others : List Access) (n m i : ℕ) (d y v : Access) → (t : ℕ) × AreAccesses xs t ks → (u : ℕ) × AreAccesses xs u others → GoneSoFar ks ks' (λ o k k'. (other : Access) → slice_get others o ≡ Some other → TakesIn other k k') n → IsTurn others n i y → TakesIn y (get_or ks' i d) v → m ≡ n + 1 → GoneSoFar ks (set ks' i v) (λ o k k'. (other : Access) → slice_get others o ≡ Some other → TakesIn other k k') m
+one_taken xs ks ks' others n m i d y v are theirs so_far turn takes more =
+    let low = turn.low in
+    let many = theirs.1.count in
+    let mine = are.1.count in
+    let at_k = was_at ks ks' (λ o k k'. (other : Access) → slice_get others o ≡ Some other → TakesIn other k k') n d so_far (omega (arith, low, many, mine)) in
+    let takes' : TakesIn y (get_or ks' n d) v = subst (λ j. TakesIn y (get_or ks' j d) v) turn.number takes in
+    rw (more, turn.number) (one_gone ks ks' (λ o k k'. (other : Access) → slice_get others o ≡ Some other → TakesIn other k k') n (get_or ks' n d) v so_far at_k
+    (λ other at_other. subst (λ (z : Access). TakesIn z (get_or ks' n d) v) (is_one (slice_get others n) y other turn.there at_other) takes'))
+
+pub all_taken : (xs : List RunObject) (ks ks' others : List Access) (n : ℕ) → (t : ℕ) × AreAccesses xs t ks → (u : ℕ) × AreAccesses xs u others → GoneSoFar ks ks' (λ o k k'. (other : Access) → slice_get others o ≡ Some other → TakesIn other k k') n → n ≡ length (enumerate_from 0 others) → AllTakeIn others ks ks'
 all_taken xs ks ks' others n are theirs so_far end =
     let long = long_counted others 0 in
     let many = theirs.1.count in
     let mine = are.1.count in
-    all_gone xs ks ks' (λ o x k k'. (other : Token) → slice_get others o ≡ Some other → TakesIn x other k k') n so_far (omega (arith, end, long, many, mine))
+    all_gone ks ks' (λ o k k'. (other : Access) → slice_get others o ≡ Some other → TakesIn other k k') n so_far (omega (arith, end, long, many, mine))

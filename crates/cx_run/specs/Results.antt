@@ -1,5 +1,5 @@
 -- What a run comes to.
-use Rattle.std.specs.Prelude.{◌≡◌, ℕ, ◌+◌, ◌<◌, ◌≤◌, List, [], ◌∷◌, length, slice_get, Option, Some}
+use Rattle.std.specs.Prelude.{◌≡◌, ℕ, suc, ◌+◌, ◌<◌, ◌≤◌, List, [], ◌∷◌, length, slice_get, Option, Some}
 use Rattle.cx_turn.specs.Views.{IsIn}
 use Rattle.cx_scene.specs.Scene.{Scene}
 use Rattle.cx_items.specs.declared.item.Item.{Item}
@@ -9,10 +9,11 @@ use Rattle.cx_history.specs.IsRecord.{IsRecord}
 use Rattle.cx_history.specs.Histories.{Recorded, items_of, history}
 use Rattle.cx_fronts.specs.Paths.{Fronts}
 use Rattle.cx_fronts.specs.Counts.{change_count}
-use Rattle.cx_work.specs.declared.objects.RunObject.{RunObject}
-use Rattle.cx_work.specs.declared.token.Token.{Token}
-use Rattle.cx_work.specs.Tokens.{AreTokens, AreShown}
-use Rattle.cx_run.specs.Handing.{taken_by}
+use Rattle.cx_kinds.specs.Accesses.{RunObject, Knows}
+use Rattle.cx_machine.specs.Machine.{State}
+use Rattle.cx_turn.specs.declared.view.View.{View}
+use Rattle.cx_kinds.specs.declared.access.Access.{Access}
+use Rattle.cx_work.specs.Accesses.{AreAccesses, AreShown}
 
 -- how many changes these lists have
 abbrev pub changes_in_all : List (Option (List Item)) → ℕ
@@ -27,17 +28,19 @@ changes_elsewhere r = after_main r.lists
     after_main [] = 0
     after_main (l ∷ ls) = changes_in_all ls
 
--- main's tokens have taken in those of every other thread of the scenario, and what they show of each object is the record's history of it
-pub record AreWhole (s : Scene) (xs : List RunObject) (tokens : List Token) (r : Recorded) : Type 0 where
-  pub are : AreTokens xs 0 tokens
-  pub all_in : (o : ℕ) (k : Token) → slice_get tokens o ≡ Some k → (n : ℕ) → 0 < n → n < length s.threads → IsIn n (taken_by k)
+-- main's accesses have taken in those of every other thread of the scenario, as many passes were split off as there are such threads, and what
+-- main's show of each object is the record's history of it
+pub record AreWhole (s : Scene) (xs : List RunObject) (accesses : List Access) (r : Recorded) : Type 0 where
+  pub are : AreAccesses xs 0 accesses
+  pub all_in : (o : ℕ) (k : Access) → slice_get accesses o ≡ Some k → (v : View State) → Knows k v → (n : ℕ) → 0 < n → n < length s.threads → IsIn n v.taken
+  pub split : (o : ℕ) (k : Access) → slice_get accesses o ≡ Some k → (v : View State) → Knows k v → suc v.splits ≡ length s.threads
   pub f : Fronts
-  pub shown : AreShown xs tokens f
+  pub shown : AreShown accesses f
   pub histories : (o : ℕ) → history r o ≡ f o
 
--- the record is legal, follows the scenario and is well formed, and main's tokens show its histories
-pub record IsRightRun (s : Scene) (xs : List RunObject) (r : Recorded) (tokens : List Token) : Type 0 where
+-- the record is legal, follows the scenario and is well formed, and main's accesses show its histories
+pub record IsRightRun (s : Scene) (xs : List RunObject) (r : Recorded) (accesses : List Access) : Type 0 where
   pub legal : LegalRecord s r
   pub follows : Follows s r
   pub formed : IsRecord s r
-  pub fronts : AreWhole s xs tokens r
+  pub fronts : AreWhole s xs accesses r

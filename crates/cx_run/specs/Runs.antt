@@ -4,34 +4,37 @@ use Rattle.cx_names.specs.declared.ThreadNo.{ThreadNo}
 use Rattle.cx_machine.specs.Machine.{IsLegal}
 use Rattle.cx_scene.specs.declared.declared.Object.{Object}
 use Rattle.cx_scene.specs.Scene.{Scene, kind_of}
+use Rattle.cx_items.specs.declared.form.Form.{Form}
+use Rattle.cx_items.specs.declared.form.Form.TheVariants.{Does}
+use Rattle.cx_items.specs.declared.item.Control.{Control}
 use Rattle.cx_items.specs.declared.item.Control.TheVariants as controls
 use Rattle.cx_items.specs.declared.item.Item.{Item}
 use Rattle.cx_items.specs.declared.item.Item.TheVariants as items
-use Rattle.cx_items.specs.Next.{local_at_start, is_ended}
+use Rattle.cx_items.specs.Next.{is_ended}
 use Rattle.cx_items.specs.Steps.{local_of}
 use Rattle.cx_history.specs.Histories.{Recorded}
-use Rattle.cx_history.specs.Follows.{any_starts, after_items, is_whole}
+use Rattle.cx_history.specs.Follows.{any_starts}
 use Rattle.cx_fronts.specs.Positions.{positions}
 use Rattle.cx_fronts.specs.Paths.{Fronts, Grows, Path, AreItems}
 use Rattle.cx_fronts.specs.Growing.{any_joins}
 use Rattle.cx_fronts.specs.Mains.{Main}
-use Rattle.cx_fronts.specs.Runs.{OnlyBarriersComplete}
+use Rattle.cx_fronts.specs.Runs.{IsWholeBy}
 use Rattle.cx_fronts.specs.Counts.{change_count}
 use Rattle.cx_io.specs.Spawning.{Raised, RaisedAtLeast}
 use Rattle.cx_jthread.specs.declared.thread.Thread.{Thread}
 use Rattle.cx_jthread.specs.Threads.{job_to_join}
-use Rattle.cx_work.specs.declared.objects.RunObject.{RunObject}
-use Rattle.cx_work.specs.declared.token.Token.{Token}
+use Rattle.cx_kinds.specs.Accesses.{RunObject}
+use Rattle.cx_kinds.specs.declared.access.Access.{Access}
 use Rattle.cx_work.specs.declared.work.Work.{Work}
 use Rattle.cx_work.specs.declared.work.Ended.{Ended}
-use Rattle.cx_work.specs.Tokens.{AreMadeAs, AreTokens, AreShown}
+use Rattle.cx_work.specs.Accesses.{AreMadeAs, AreAccesses, AreShown, objects_of}
 use Rattle.cx_work.specs.Steps.{IsAt}
-use Rattle.cx_work.specs.Bodies.{IsBody, Needs, scene_in, all_in}
+use Rattle.cx_work.specs.Bodies.{IsBody, Needs, scene_in, objects_in}
 use Rattle.cx_work.specs.RunNow.{IsRunNow}
 use Rattle.cx_run.specs.declared.place.Place.{Place}
 use Rattle.cx_run.specs.declared.place.Place.TheVariants as places
 use Rattle.cx_run.specs.declared.run.Run.{Run}
-use Rattle.cx_run.specs.Handing.{AllTakeIn, HaveTaken, splits_of}
+use Rattle.cx_run.specs.Handing.{AllTakeIn, HaveTaken, IsSplit}
 
 -- ---- what a list counts
 
@@ -65,9 +68,9 @@ pub record IsTallied (before now : Tally) (xs : List Item) (steps : ℕ) : Type 
 
 -- ---- threads other than main
 
--- the list of a thread's whole body
-pub record IsWholeList (s : Scene) (u : ℕ) (xs : List Item) : Type 0 where
-  pub whole : (leaves_completing : ℕ → ℕ → Bool) → OnlyBarriersComplete s leaves_completing → IsTrue (is_whole (after_items s leaves_completing u (local_at_start s u) xs))
+-- the list of a thread's whole body, by what the thread had seen at its end
+pub record IsWholeList (s : Scene) (u : ℕ) (f : Fronts) (xs : List Item) : Type 0 where
+  pub whole : IsWholeBy s u f xs
   pub formed : AreItems s u xs
 
 module _ {G : Type 0} (s : Scene) (xs : List RunObject) where
@@ -75,10 +78,10 @@ module _ {G : Type 0} (s : Scene) (xs : List RunObject) where
   pub record IsReady (u : ℕ) (w : Work G) : Type 0 where
     pub number : w.standing.thread.0 ≡ u
     pub scene : scene_in w.objects ≡ s
-    pub objects : all_in w.objects ≡ xs
+    pub objects : objects_in w ≡ xs
     pub needs : Needs w
     pub h : Fronts
-    pub shown : AreShown xs w.standing.tokens.items h
+    pub shown : AreShown w.standing.accesses.items h
     pub fresh : (o : ℕ) → positions u 0 (h o) ≡ []
 
   -- the thread was started with such work, which showed these fronts
@@ -88,9 +91,9 @@ module _ {G : Type 0} (s : Scene) (xs : List RunObject) where
     pub to_join : job_to_join thread ≡ Some job
     pub is_of : job.standing.thread.0 ≡ u
     pub scene : scene_in job.objects ≡ s
-    pub objects : all_in job.objects ≡ xs
+    pub objects : objects_in job ≡ xs
     pub needs : Needs job
-    pub shown : AreShown xs job.standing.tokens.items first
+    pub shown : AreShown job.standing.accesses.items first
 
 -- the thread was started with this work, or it waits on with it
 abbrev pub IsBegun : {G : Type 0} → ThreadNo → Work G → Bool → Place G → Type 0
@@ -105,76 +108,86 @@ MayRun _ = Unit {0}
 
 -- ---- a thread that has ended
 
--- it made its list from `first` to `last`, which these tokens, that show f, have taken in
-pub record HasEnded (s : Scene) (u : ℕ) (first last : Fronts) (ys : List Item) (tokens : List Token) (f : Fronts) : Type 0 where
+-- it made its list, that of its whole body, from `first` to `last`, which these accesses, that show f, have taken in
+pub record HasEnded (s : Scene) (u : ℕ) (first last : Fronts) (ys : List Item) (accesses : List Access) (f : Fronts) : Type 0 where
+  pub list : IsWholeList s u last ys
   pub made : (firsts lasts : ℕ → Fronts) → Path s firsts lasts u first ys last
   pub grows : Grows last f
-  pub taken : HaveTaken tokens u last
+  pub taken : HaveTaken accesses u last
 
 -- main's list tells of its join, and it ended with `last`; or it was joined after main's end
-abbrev pub HasCome : Scene → ℕ → Bool → Fronts → Fronts → List Item → List Item → List Token → Fronts → Type 0
-HasCome s u true first last list ys tokens f = (list ≡ ys) × HaveTaken tokens u last
-HasCome s u false first last list ys tokens f = (end : Fronts) × HasEnded s u first end ys tokens f
+abbrev pub HasCome : Scene → ℕ → Bool → Fronts → Fronts → List Item → List Item → List Access → Fronts → Type 0
+HasCome s u true first last list ys accesses f = (list ≡ ys) × HaveTaken accesses u last × IsWholeList s u last ys
+HasCome s u false first last list ys accesses f = (end : Fronts) × HasEnded s u first end ys accesses f
 
 -- it was never started, and its passes, that showed this, were taken in
-pub record WasIdle (u : ℕ) (tokens : List Token) (f : Fronts) : Type 0 where
+pub record WasIdle (u : ℕ) (accesses : List Access) (f : Fronts) : Type 0 where
   pub h : Fronts
   pub fresh : (o : ℕ) → positions u 0 (h o) ≡ []
   pub grows : Grows h f
-  pub taken : HaveTaken tokens u h
+  pub taken : HaveTaken accesses u h
 
-module _ {G : Type 0} (s : Scene) (xs : List RunObject) (first last : ℕ → Fronts) (lists : ℕ → List Item) (list : List Item) (tokens : List Token) (f : Fronts) where
+module _ {G : Type 0} (s : Scene) (xs : List RunObject) (first last : ℕ → Fronts) (lists : ℕ → List Item) (list : List Item) (accesses : List Access) (f : Fronts) where
   -- where thread u is, when main has made this list
   abbrev pub IsPlace : ℕ → Place G → Type 0
   IsPlace u (places.Waiting work) = (any_starts u list ≡ false) × IsReady s xs u work
   IsPlace u (places.Running thread) = (any_starts u list ≡ true) × (any_joins u list ≡ false) × IsOff s xs u (first u) thread
-  IsPlace u (places.Ended ys) = (any_starts u list ≡ true) × IsWholeList s u ys.items × HasCome s u (any_joins u list) (first u) (last u) (lists u) ys.items tokens f
-  IsPlace u places.Idle = (any_starts u list ≡ false) × WasIdle u tokens f
+  IsPlace u (places.Ended ys) = (any_starts u list ≡ true) × HasCome s u (any_joins u list) (first u) (last u) (lists u) ys.items accesses f
+  IsPlace u places.Idle = (any_starts u list ≡ false) × WasIdle u accesses f
 
 -- ---- a run
 
--- main has made this list and its tokens show f; each other thread, u at u - 1, is where the list says
-pub record RunOf {G : Type 0} (s : Scene) (xs : List RunObject) (list : List Item) (tokens : List Token) (others : List (Place G)) : Type 0 where
+-- main has made this list and its accesses show f; each other thread, u at u - 1, is where the list says
+pub record RunOf {G : Type 0} (s : Scene) (xs : List RunObject) (list : List Item) (accesses : List Access) (others : List (Place G)) : Type 0 where
   pub count : suc (length others) ≡ length s.threads
-  pub splits : (o : ℕ) (k : Token) → slice_get tokens o ≡ Some k → splits_of k ≡ length others
+  pub splits : (o : ℕ) (k : Access) → slice_get accesses o ≡ Some k → IsSplit k (length others)
   pub first : ℕ → Fronts
   pub last : ℕ → Fronts
   pub lists : ℕ → List Item
   pub f : Fronts
-  pub shown : AreShown xs tokens f
+  pub shown : AreShown accesses f
   pub main : Main s first last lists list f
   pub started : (u : ℕ) → any_starts u list ≡ true → (0 < u) × (u ≤ length others)
-  pub places : (i : ℕ) (p : Place G) → slice_get others i ≡ Some p → IsPlace s xs first last lists list tokens f (suc i) p
+  pub places : (i : ℕ) (p : Place G) → slice_get others i ≡ Some p → IsPlace s xs first last lists list accesses f (suc i) p
 
--- the job of the thread was done from its tokens to these, with this list, and main's tokens have taken them in
-pub record IsAwaited {G : Type 0} (s : Scene) (xs : List RunObject) (thread : Thread (Work G) Ended) (ys : List Item) (tokens tokens' : List Token) : Type 0 where
+-- the job of the thread was done from its accesses to these, with this list, and main's accesses have taken them in
+pub record IsAwaited {G : Type 0} (s : Scene) (xs : List RunObject) (thread : Thread (Work G) Ended) (ys : List Item) (accesses accesses' : List Access) : Type 0 where
   pub job : Work G
   pub to_join : job_to_join thread ≡ Some job
-  pub ended : List Token
-  pub theirs : AreTokens xs job.standing.thread.0 ended
-  pub body : IsBody s xs job.standing.thread.0 job.standing.tokens.items ys ended
-  pub takes : AllTakeIn xs ended tokens tokens'
+  pub ended : List Access
+  pub theirs : AreAccesses xs job.standing.thread.0 ended
+  pub body : IsBody s job.standing.thread.0 job.standing.accesses.items ys ended
+  pub takes : AllTakeIn ended accesses accesses'
 
--- what main's tokens know of their fronts at the end: each is legal, shows of a thread that they have taken in what that thread
+-- what main's accesses know of their fronts at the end: each is legal, shows of a thread that they have taken in what that thread
 -- showed, and nothing of numbers above n
-pub record AreSettled (s : Scene) (tokens : List Token) (f : Fronts) (n : ℕ) : Type 0 where
+pub record AreSettled (s : Scene) (accesses : List Access) (f : Fronts) (n : ℕ) : Type 0 where
   pub legal : (o : ℕ) (d : Object) → slice_get s.objects o ≡ Some d → IsLegal (kind_of d) (f o)
-  pub gone : (u : ℕ) (h : Fronts) → Grows h f → HaveTaken tokens u h → (o : ℕ) → positions u 0 (f o) ≡ positions u 0 (h o)
+  pub gone : (u : ℕ) (h : Fronts) → Grows h f → HaveTaken accesses u h → (o : ℕ) → positions u 0 (f o) ≡ positions u 0 (h o)
   pub above : (u : ℕ) → n < u → (o : ℕ) → positions u 0 (f o) ≡ []
 
+-- the start or the join that comes first, if one does
+abbrev pub IsControlIn : List Form → Option Control → Type 0
+IsControlIn (Does c ∷ fs) r = r ≡ Some c
+IsControlIn _ r = r ≡ None
+
 module _ {G : Type 0} where
-  -- what is always so of it, also where no more items are made
-  pub record IsKept (run : Run G) : Type 0 where
-    pub made : AreMadeAs (scene_in run.objects).objects (all_in run.objects)
-    pub tokens : AreTokens (all_in run.objects) 0 run.main.tokens.items
+  -- the objects that main has access to
+  abbrev pub objects_at : Run G → List RunObject
+  objects_at run = objects_of run.main.accesses.items
+
+  -- what is always so of it, on these objects, also where no more items are made
+  pub record IsKept (xs : List RunObject) (run : Run G) : Type 0 where
+    pub made : AreMadeAs (scene_in run.objects).objects xs
+    pub accesses : AreAccesses xs 0 run.main.accesses.items
     pub thread : run.main.thread.0 ≡ 0
     pub may_run : (i : ℕ) (p : Place G) → slice_get run.others.items i ≡ Some p → MayRun p
 
-  pub record IsRun (run : Run G) : Type 0 where
-    pub kept : IsKept run
+  pub record IsRun (xs : List RunObject) (run : Run G) : Type 0 where
+    pub kept : IsKept xs run
     pub runs_now : IsRunNow (scene_in run.objects)
     pub at_ : IsAt (scene_in run.objects) run.main
-    pub goes : RunOf (scene_in run.objects) (all_in run.objects) run.main.list.items run.main.tokens.items run.others.items
+    pub goes : RunOf (scene_in run.objects) xs run.main.list.items run.main.accesses.items run.others.items
 
   -- main has made all of its body
   abbrev pub IsAtEnd : Run G → Type 0

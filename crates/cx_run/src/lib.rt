@@ -10,6 +10,3 @@ mod run;
 mod scenario;
 
 pub use scenario::{Fronts, run_on};
-
-#[cfg(test)]
-mod tests;

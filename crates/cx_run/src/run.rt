@@ -1,29 +1,29 @@
 //! Main's list, with the threads that it starts and joins.
-ghost use Rattle.std.specs.Prelude.{◌≡◌, ◌-◌, ◌+◌, ◌<◌, ℕ, [], ◌∷◌, ◌++◌, length, slice_get, slice_set, Some, None, IfOk, IfSome, OnOk, MatchOption};
-ghost use Rattle.cx_items.specs.Steps.{local_of};
+ghost use Rattle.std.specs.Prelude.{◌≡◌, true, false, ◌-◌, ◌+◌, ◌<◌, ℕ, [], ◌∷◌, ◌++◌, length, slice_get, slice_set, Some, None, IfOk, IfSome, OnOk, MatchOption};
+ghost use Rattle.cx_items.specs.declared.form.Form.TheVariants as forms;
 ghost use Rattle.cx_items.specs.declared.item.Control.TheVariants as controls;
 ghost use Rattle.cx_items.specs.declared.item.Item.TheVariants as items;
 ghost use Rattle.cx_history.specs.Views.{listed, recorded_of};
 ghost use Rattle.cx_history.specs.Histories.{list_of as list_in};
-ghost use Rattle.cx_work.specs.declared.act.Next.TheVariants as nexts;
-ghost use Rattle.cx_work.specs.Bodies.{Needs, scene_in, all_in};
+ghost use Rattle.cx_work.specs.Bodies.{Needs, scene_in, objects_in};
 ghost use Rattle.cx_fronts.specs.Counts.{change_count};
 ghost use Rattle.cx_io.specs.Spawning.{Raised};
 ghost use Rattle.cx_jthread.specs.Threads.{job_to_join};
-ghost use Rattle.cx_work.specs.RunNow.{IsRunNow, AreAllNew};
-ghost use Rattle.cx_work.specs.Steps.{IsNext};
-ghost use Rattle.cx_work.specs.Tokens.{AreMadeAs};
-ghost use Rattle.cx_run.specs.Runs.{IsBegun, IsTallied, list_at, tally};
+ghost use Rattle.cx_work.specs.RunNow.{IsRunNow, AreAllNew, objects_of_all};
+ghost use Rattle.cx_work.specs.Steps.{forms_at};
+ghost use Rattle.cx_work.specs.Accesses.{AreMadeAs};
+ghost use Rattle.cx_run.specs.Runs.{IsBegun, IsTallied, IsControlIn, list_at, tally};
 ghost use Rattle.cx_run.specs.Results.{IsRightRun, changes_elsewhere};
 
 use crate::handing::{meet_all, take_all_in};
 use crate::place::Place;
 use cx_history::{Items, List, Record};
 use cx_io::Spawner;
-use cx_items::{Control, Item};
+use cx_items::{Control, Form, Item};
 use cx_jthread::Thread;
+use cx_kinds::Access;
 use cx_names::{NoMemory, ThreadNo};
-use cx_work::{Ended, Gate, Next, Objects, Passes, Standing, Token, Work, room_for};
+use cx_work::{Ended, Gate, Objects, Passes, Standing, Work, room_for};
 use std::alloc::Global;
 use std::mem;
 use std::sync::{Arc, Wait};
@@ -43,6 +43,16 @@ pub(crate) struct Run<G: Gate + Send + Sync> {
 /// The answer where a text asks for what no scenario asks for.
 fn cannot_be() -> NoMemory {
     NoMemory
+}
+
+/// The start or the join that comes next, by the first of these forms.
+fn control_in(forms: &[Form]) -> Option<Control>
+    ensures { IsControlIn forms.now result }
+{
+    match forms {
+        [Form::Does(control), ..] => Some(*control),
+        _ => None,
+    }
 }
 
 /// The number of the thread at this place.
@@ -71,7 +81,7 @@ fn begin<G: Gate + Send + Sync, P: Spawner<Work<G>>, R: Threads + Wait + Copy + 
 }
 
 impl<G: Gate + Send + Sync> Run<G> {
-    ghost use Rattle.cx_run.specs.Runs.{IsKept, IsRun, IsAtEnd, AllHaveCome, KeepsTally, IsHere, HasComeAt, IsAwaited, steps_in};
+    ghost use Rattle.cx_run.specs.Runs.{IsKept, IsRun, objects_at, IsAtEnd, AllHaveCome, KeepsTally, IsHere, HasComeAt, IsAwaited, steps_in};
 
     /// Everything that a run needs: main at the start of its body, and the work of each other thread.
     pub(crate) fn prepare(
@@ -81,27 +91,27 @@ impl<G: Gate + Send + Sync> Run<G> {
         gate: &Arc<G, Global>,
     ) -> Result<Run<G>, NoMemory>
         requires runs { IsRunNow (scene_in objects.now) }
-        requires made { AreMadeAs (scene_in objects.now).objects (all_in objects.now) }
-        requires passes { AreAllNew (all_in objects.now) (length (scene_in objects.now).threads) passes.threads.items }
-        ensures run { IfOk result (λ r. IsRun r) }
-        ensures objects { IfOk result (λ r. (scene_in r.objects ≡ scene_in objects.now) × (all_in r.objects ≡ all_in objects.now)) }
+        requires made { AreMadeAs (scene_in objects.now).objects (objects_of_all passes.threads.items) }
+        requires passes { AreAllNew (objects_of_all passes.threads.items) (length (scene_in objects.now).threads) passes.threads.items }
+        ensures run { IfOk result (λ r. IsRun (objects_of_all passes.threads.items) r) }
+        ensures objects { IfOk result (λ r. scene_in r.objects ≡ scene_in objects.now) }
         ensures list { IfOk result (λ r. (r.main.list.items ≡ []) × (steps_in r.others.items ≡ 0)) }
     {
         let mut threads = passes.threads;
         if threads.is_empty() {
             return Err(cannot_be());
         }
-        let tokens = threads.remove(0);
+        let accesses = threads.remove(0);
         let plan = &objects.plan;
         let room = room_for(plan, MAIN)?;
-        let main = Standing::start(alloc, plan, MAIN, tokens, room)?;
+        let main = Standing::start(alloc, plan, MAIN, accesses, room)?;
         let mut others = Vec::with_capacity(alloc, threads.len())?;
-        for (i, tokens) in threads.into_iter().enumerate() {
+        for (i, accesses) in threads.into_iter().enumerate() {
             let work = Work::new(
                 alloc,
                 objects.share()?,
                 after(i)?,
-                tokens,
+                accesses,
                 Arc::try_clone(gate)?,
             )?;
             others.push(Place::Waiting(work))?;
@@ -120,10 +130,10 @@ impl<G: Gate + Send + Sync> Run<G> {
         spawner: &mut P,
         gate: &G,
     ) -> Result<(), NoMemory>
-        requires run { IsRun self.old }
+        requires run { IsRun (objects_at self.old) self.old }
         ensures objects { self.new.objects ≡ self.old.objects }
-        ensures kept { IsKept self.new }
-        ensures run { OnOk result (IsRun self.new) }
+        ensures kept { IsKept (objects_at self.old) self.new }
+        ensures run { OnOk result (IsRun (objects_at self.old) self.new) }
         ensures tally { OnOk result (KeepsTally self.old (tally (P.faults spawner.old) (P.started spawner.old) (P.carried spawner.old)) self.new (tally (P.faults spawner.new) (P.started spawner.new) (P.carried spawner.new))) }
         ensures ended { OnOk result (IsAtEnd self.new) }
         ensures come { OnOk result (AllHaveCome self.new) }
@@ -139,19 +149,19 @@ impl<G: Gate + Send + Sync> Run<G> {
         spawner: &mut P,
         gate: &G,
     ) -> Result<(), NoMemory>
-        requires run { IsRun self.old }
+        requires run { IsRun (objects_at self.old) self.old }
         ensures objects { self.new.objects ≡ self.old.objects }
-        ensures kept { IsKept self.new }
-        ensures run { OnOk result (IsRun self.new) }
+        ensures kept { IsKept (objects_at self.old) self.new }
+        ensures run { OnOk result (IsRun (objects_at self.old) self.new) }
         ensures tally { OnOk result (KeepsTally self.old (tally (P.faults spawner.old) (P.started spawner.old) (P.carried spawner.old)) self.new (tally (P.faults spawner.new) (P.started spawner.new) (P.carried spawner.new))) }
         ensures ended { OnOk result (IsAtEnd self.new) }
     {
         for _ in rt.forever() {
             self.main.enter(&self.objects.plan, gate);
-            let Some(next) = self.main.next(&self.objects.plan)? else {
+            if !self.main.next(&self.objects.plan)? {
                 return Ok(());
-            };
-            let item = self.step(rt, spawner, next)?;
+            }
+            let item = self.step(rt, spawner)?;
             self.main.leave(gate, &item);
         }
         unreachable!()
@@ -162,22 +172,19 @@ impl<G: Gate + Send + Sync> Run<G> {
         &mut self,
         rt: &R,
         spawner: &mut P,
-        next: Next,
     ) -> Result<Item, NoMemory>
-        requires next { IsNext (scene_in self.old.objects) 0 (local_of (scene_in self.old.objects) 0 self.old.main.local) (Some next) }
-        requires run { IsRun self.old }
+        requires next { self.old.main.forms.items ≡ forms_at (scene_in self.old.objects) 0 self.old.main.local }
+        requires run { IsRun (objects_at self.old) self.old }
         ensures objects { self.new.objects ≡ self.old.objects }
-        ensures kept { IsKept self.new }
-        ensures run { OnOk result (IsRun self.new) }
+        ensures kept { IsKept (objects_at self.old) self.new }
+        ensures run { OnOk result (IsRun (objects_at self.old) self.new) }
         ensures tally { OnOk result (KeepsTally self.old (tally (P.faults spawner.old) (P.started spawner.old) (P.carried spawner.old)) self.new (tally (P.faults spawner.new) (P.started spawner.new) (P.carried spawner.new))) }
     {
-        match next {
-            Next::Starts(u) => self.start(rt, spawner, u),
-            Next::Joins(u) => self.join(rt, spawner, u),
-            _ => {
-                let objects = self.objects.all.as_slice();
-                self.main.make(rt, &self.objects.plan, objects, next)
-            }
+        match control_in(self.main.forms()) {
+            Some(Control::Start(u, _)) => self.start(rt, spawner, u),
+            Some(Control::Join(u)) => self.join(rt, spawner, u),
+            Some(Control::Launch(..)) => unreachable!(),
+            None => self.main.make(rt, &self.objects.plan),
         }
     }
 
@@ -200,20 +207,19 @@ impl<G: Gate + Send + Sync> Run<G> {
         spawner: &mut P,
         u: ThreadNo,
     ) -> Result<Item, NoMemory>
-        requires next { IsNext (scene_in self.old.objects) 0 (local_of (scene_in self.old.objects) 0 self.old.main.local) (Some (nexts.Starts u)) }
-        requires run { IsRun self.old }
+        requires next { forms_at (scene_in self.old.objects) 0 self.old.main.local ≡ forms.Does (controls.Start u true) ∷ forms.Does (controls.Start u false) ∷ [] }
+        requires run { IsRun (objects_at self.old) self.old }
         ensures objects { self.new.objects ≡ self.old.objects }
-        ensures kept { IsKept self.new }
-        ensures run { OnOk result (IsRun self.new) }
+        ensures kept { IsKept (objects_at self.old) self.new }
+        ensures run { OnOk result (IsRun (objects_at self.old) self.new) }
         ensures tally { OnOk result (KeepsTally self.old (tally (P.faults spawner.old) (P.started spawner.old) (P.carried spawner.old)) self.new (tally (P.faults spawner.new) (P.started spawner.new) (P.carried spawner.new))) }
     {
         let Some(Place::Waiting(mut work)) = self.leave(u) else {
             return Err(cannot_be());
         };
         meet_all(
-            self.objects.all.as_slice(),
-            self.main.tokens.as_mut_slice(),
-            work.standing.tokens.as_mut_slice(),
+            self.main.accesses.as_mut_slice(),
+            work.standing.accesses.as_mut_slice(),
         );
         let (place, started) = begin(rt, spawner, u, work);
         self.others[u.0 as usize - 1] = place;
@@ -229,11 +235,11 @@ impl<G: Gate + Send + Sync> Run<G> {
         spawner: &mut P,
         u: ThreadNo,
     ) -> Result<Item, NoMemory>
-        requires next { IsNext (scene_in self.old.objects) 0 (local_of (scene_in self.old.objects) 0 self.old.main.local) (Some (nexts.Joins u)) }
-        requires run { IsRun self.old }
+        requires next { forms_at (scene_in self.old.objects) 0 self.old.main.local ≡ forms.Does (controls.Join u) ∷ [] }
+        requires run { IsRun (objects_at self.old) self.old }
         ensures objects { self.new.objects ≡ self.old.objects }
-        ensures kept { IsKept self.new }
-        ensures run { OnOk result (IsRun self.new) }
+        ensures kept { IsKept (objects_at self.old) self.new }
+        ensures run { OnOk result (IsRun (objects_at self.old) self.new) }
         ensures tally { OnOk result (KeepsTally self.old (tally (P.faults spawner.old) (P.started spawner.old) (P.carried spawner.old)) self.new (tally (P.faults spawner.new) (P.started spawner.new) (P.carried spawner.new))) }
     {
         let Some(Place::Running(thread)) = self.leave(u) else {
@@ -253,11 +259,11 @@ impl<G: Gate + Send + Sync> Run<G> {
         spawner: &mut P,
         mut thread: Thread<Work<G>>,
     ) -> Result<Vec<Item>, NoMemory>
-        requires kept { IsKept self.old }
-        requires job { IfSome (job_to_join thread) (λ w. Needs w × (scene_in w.objects ≡ scene_in self.old.objects) × (all_in w.objects ≡ all_in self.old.objects)) }
-        ensures kept { IsKept self.new }
+        requires kept { IsKept (objects_at self.old) self.old }
+        requires job { IfSome (job_to_join thread) (λ w. Needs w × (scene_in w.objects ≡ scene_in self.old.objects) × (objects_in w ≡ objects_at self.old)) }
+        ensures kept { IsKept (objects_at self.old) self.new }
         ensures parts { (self.new.objects ≡ self.old.objects) × (self.new.others ≡ self.old.others) × (self.new.main.list ≡ self.old.main.list) × (self.new.main.local ≡ self.old.main.local) }
-        ensures ended { IfOk result (λ ys. IsAwaited (scene_in self.old.objects) (all_in self.old.objects) thread ys.items self.old.main.tokens.items self.new.main.tokens.items) }
+        ensures ended { IfOk result (λ ys. IsAwaited (scene_in self.old.objects) (objects_at self.old) thread ys.items self.old.main.accesses.items self.new.main.accesses.items) }
         ensures started { P.started spawner.new ≡ P.started spawner.old }
         ensures faults { P.faults spawner.new ≡ P.faults spawner.old }
         ensures carried { IfOk result (λ ys. Raised (P.carried spawner.old) (P.carried spawner.new) (change_count ys.items)) }
@@ -267,12 +273,11 @@ impl<G: Gate + Send + Sync> Run<G> {
         };
         let Ended {
             list,
-            tokens,
+            accesses,
             failed,
             ..
         } = ended;
-        let objects = self.objects.all.as_slice();
-        take_all_in(objects, self.main.tokens.as_mut_slice(), tokens);
+        take_all_in(self.main.accesses.as_mut_slice(), accesses);
         if failed { Err(NoMemory) } else { Ok(list) }
     }
 
@@ -282,10 +287,10 @@ impl<G: Gate + Send + Sync> Run<G> {
         rt: &R,
         spawner: &mut P,
     ) -> Result<(), NoMemory>
-        requires run { IsRun self.old }
+        requires run { IsRun (objects_at self.old) self.old }
         ensures objects { self.new.objects ≡ self.old.objects }
-        ensures kept { IsKept self.new }
-        ensures run { OnOk result (IsRun self.new) }
+        ensures kept { IsKept (objects_at self.old) self.new }
+        ensures run { OnOk result (IsRun (objects_at self.old) self.new) }
         ensures tally { OnOk result (KeepsTally self.old (tally (P.faults spawner.old) (P.started spawner.old) (P.carried spawner.old)) self.new (tally (P.faults spawner.new) (P.started spawner.new) (P.carried spawner.new))) }
         ensures come { OnOk result (AllHaveCome self.new) }
         ensures main { (self.new.main.list ≡ self.old.main.list) × (self.new.main.local ≡ self.old.main.local) }
@@ -304,22 +309,17 @@ impl<G: Gate + Send + Sync> Run<G> {
         i: usize,
     ) -> Result<(), NoMemory>
         requires there { i < length self.old.others.items }
-        requires run { IsRun self.old }
+        requires run { IsRun (objects_at self.old) self.old }
         ensures objects { self.new.objects ≡ self.old.objects }
-        ensures kept { IsKept self.new }
-        ensures run { OnOk result (IsRun self.new) }
+        ensures kept { IsKept (objects_at self.old) self.new }
+        ensures run { OnOk result (IsRun (objects_at self.old) self.new) }
         ensures tally { OnOk result (KeepsTally self.old (tally (P.faults spawner.old) (P.started spawner.old) (P.carried spawner.old)) self.new (tally (P.faults spawner.new) (P.started spawner.new) (P.carried spawner.new))) }
         ensures come { OnOk result (HasComeAt i self.old.others.items self.new.others.items) }
         ensures main { (self.new.main.list ≡ self.old.main.list) × (self.new.main.local ≡ self.old.main.local) }
     {
         match mem::replace(&mut self.others[i], Place::Idle) {
             Place::Waiting(work) => {
-                let objects = self.objects.all.as_slice();
-                take_all_in(
-                    objects,
-                    self.main.tokens.as_mut_slice(),
-                    work.standing.tokens,
-                );
+                take_all_in(self.main.accesses.as_mut_slice(), work.standing.accesses);
                 Ok(())
             }
             Place::Running(thread) => {
@@ -337,14 +337,14 @@ impl<G: Gate + Send + Sync> Run<G> {
 
     /// After want of memory: main gives up what it holds, and waits until every thread has ended.
     pub(crate) fn give_up<P: Spawner<Work<G>>, R: Threads + Wait>(self, rt: &R, spawner: &mut P)
-        requires kept { IsKept self }
+        requires kept { IsKept (objects_at self) self }
     {
         let Run {
-            objects,
             mut main,
             others,
+            ..
         } = self;
-        main.give_up(rt, objects.all.as_slice());
+        main.give_up(rt);
         for place in others {
             if let Place::Running(mut thread) = place {
                 let _ = thread.join(rt, spawner, MAIN);
@@ -352,12 +352,12 @@ impl<G: Gate + Send + Sync> Run<G> {
         }
     }
 
-    /// The record of what each thread did, and main's tokens.
-    pub(crate) fn into_record(self, alloc: Global) -> Result<(Record, Vec<Token>), NoMemory>
-        requires run { IsRun self }
+    /// The record of what each thread did, and main's accesses.
+    pub(crate) fn into_record(self, alloc: Global) -> Result<(Record, Vec<Access>), NoMemory>
+        requires run { IsRun (objects_at self) self }
         requires ended { IsAtEnd self }
         requires come { AllHaveCome self }
-        ensures right { IfOk result (λ t. IsRightRun (scene_in self.objects) (all_in self.objects) (recorded_of t.0) t.1.items) }
+        ensures right { IfOk result (λ t. IsRightRun (scene_in self.objects) (objects_at self) (recorded_of t.0) t.1.items) }
         ensures steps { IfOk result (λ t. changes_elsewhere (recorded_of t.0) ≡ steps_in self.others.items) }
         ensures list { IfOk result (λ t. list_in (recorded_of t.0) 0 ≡ self.main.list.items) }
     {
@@ -366,14 +366,14 @@ impl<G: Gate + Send + Sync> Run<G> {
             main,
             others,
         } = self;
-        let Standing { tokens, list, .. } = main;
+        let Standing { accesses, list, .. } = main;
         let mut lists = Vec::new(alloc);
         lists.push(made(list))?;
         for place in others {
             lists.push(list_of(alloc, place))?;
         }
         let version = objects.plan.version;
-        Ok((Record { version, lists }, tokens))
+        Ok((Record { version, lists }, accesses))
     }
 }
 

@@ -1,59 +1,107 @@
 -- A body goes on by an item, and ends.
-use Rattle.std.proofs.Common.{◌≡◌, ℕ, true, List, [], ◌∷◌, ◌++◌, sym, ap, ◌∙◌, subst}
+use Rattle.std.proofs.Common.{◌≡◌, ℕ, Bool, true, List, [], ◌∷◌, ◌++◌, refl, sym, ap, ◌∙◌, subst}
 use Rattle.std.specs.Global.{Vec}
 use Rattle.cx_names.specs.declared.ThreadNo.{ThreadNo}
 use Rattle.cx_scene.specs.Scene.{Scene}
+use Rattle.cx_items.specs.declared.form.Form.{Form}
 use Rattle.cx_items.specs.declared.item.Item.{Item}
 use Rattle.cx_items.specs.declared.local.Local.{Local as Place}
 use Rattle.cx_items.specs.Next.{is_ended}
 use Rattle.cx_items.specs.Steps.{local_of}
 use Rattle.cx_history.specs.Follows.{is_whole}
+use Rattle.cx_history.specs.IsRecord.{is_item}
+use Rattle.cx_fronts.specs.Paths.{Fronts, Grows, nothing}
 use Rattle.cx_fronts.specs.Promises.{Promised}
+use Rattle.cx_asks.specs.Forms.{is_of_one}
 use Rattle.cx_fronts.proofs.Heart.{stays}
 use Rattle.cx_fronts.proofs.Promised.{promises_compose, one_is_promised}
-use Rattle.cx_work.specs.declared.objects.RunObject.{RunObject}
-use Rattle.cx_work.specs.declared.token.Token.{Token}
-use Rattle.cx_work.specs.Tokens.{AreMadeAs, AreTokens, AreShown}
-use Rattle.cx_work.specs.Steps.{StepsOn, StandsAt, is_made_alone}
-use Rattle.cx_work.specs.Bodies.{Goes, IsBody}
-use Rattle.cx_work.proofs.Stepping.{steps_promise}
+use Rattle.cx_kinds.specs.declared.access.Access.{Access}
+use Rattle.cx_kinds.specs.Accesses.{RunObject}
+use Rattle.cx_work.specs.Accesses.{AreMadeAs, AreAccesses, AreShown, objects_of}
+use Rattle.cx_work.specs.declared.standing.Standing.{Standing}
+use Rattle.cx_work.specs.Steps.{StepsOn, StandsAt, IsNext, forms_at, is_made_alone}
+use Rattle.cx_work.specs.Bodies.{Goes, IsBody, IsUnderway}
+use Rattle.cx_work.proofs.Promising.{steps_promise}
+use Rattle.cx_work.proofs.Stepping.{objects_are, some_fronts}
+use Rattle.cx_work.proofs.Walking.{stands_later}
 
 -- at its start a body has gone nowhere
-pub goes_first : (s : Scene) (xs : List RunObject) (t : ℕ) (ks : List Token) (list : List Item) (l : Place) → list ≡ [] → AreTokens xs t ks → StandsAt s t list l → Goes s xs ks t ks list l
-goes_first s xs t ks list l none are stands = record {
-  tokens = are;
+pub goes_first : (s : Scene) (t : ℕ) (ks : List Access) (list : List Item) (l : Place) → list ≡ [] → AreAccesses (objects_of ks) t ks → StandsAt s t ks list l → Goes s ks t ks list l
+goes_first s t ks list l none are stands = record {
+  accesses = are;
   at_ = stands;
-  promised = subst (λ (ys : List Item). Promised s t (AreShown xs ks) ys (AreShown xs ks)) (sym none) (λ f shown. (f, shown, λ first last. stays t f));
+  promised = subst (λ (ys : List Item). Promised s t (AreShown ks) ys (AreShown ks)) (sym none) (λ f shown. (f, shown, λ first last. stays t f));
 }
 
-pub goes_on : (s : Scene) (xs : List RunObject) (before : List Token) (t : ℕ) (ks ks' : List Token) (list : List Item) (l l' : Place) (x : Item) → AreMadeAs s.objects xs → Goes s xs before t ks list l → AreTokens xs t ks' → StandsAt s t (list ++ x ∷ []) l' → StepsOn xs ks ks' x → is_made_alone x ≡ true → Goes s xs before t ks' (list ++ x ∷ []) l'
-goes_on s xs before t ks ks' list l l' x made goes are stands steps alone = record {
-  tokens = are;
-  at_ = stands;
-  promised = promises_compose s t (AreShown xs before) (AreShown xs ks) (AreShown xs ks') list (x ∷ []) goes.promised (one_is_promised s t (AreShown xs ks) (AreShown xs ks') x (steps_promise s t xs ks ks' x made goes.tokens steps alone));
-}
+-- what is so of the accesses by the objects of those before is so by their own
+pub own_made : (s : Scene) (before : List Access) (t : ℕ) (ks : List Access) → AreAccesses (objects_of before) t ks → AreMadeAs s.objects (objects_of before) → AreMadeAs s.objects (objects_of ks)
+own_made s before t ks are made = subst (λ (xs : List RunObject). AreMadeAs s.objects xs) (sym (objects_are (objects_of before) t ks are)) made
+
+pub own_accesses : (before : List Access) (t : ℕ) (ks : List Access) → AreAccesses (objects_of before) t ks → AreAccesses (objects_of ks) t ks
+own_accesses before t ks are = subst (λ (xs : List RunObject). AreAccesses xs t ks) (sym (objects_are (objects_of before) t ks are)) are
+
+pub before_accesses : (before : List Access) (t t' : ℕ) (ks ks' : List Access) → AreAccesses (objects_of before) t ks → AreAccesses (objects_of ks) t' ks' → AreAccesses (objects_of before) t' ks'
+before_accesses before t t' ks ks' are are' = subst (λ (xs : List RunObject). AreAccesses xs t' ks') (objects_are (objects_of before) t ks are) are'
+
+pub given_up : (before ks : List Access) (t t' t'' : ThreadNo) (ks' ks'' : Vec Access) → t' ≡ t → t'' ≡ t' → ks'' ≡ ks' → AreAccesses (objects_of before) t.0 ks → AreAccesses (objects_of ks) t.0 ks'.items → AreAccesses (objects_of before) t''.0 ks''.items
+given_up before ks t t' t'' ks' ks'' a b c are are' = rw (c, b, a) (before_accesses before t.0 t.0 ks ks'.items are are')
+
+goes_on : (s : Scene) (before : List Access) (t : ℕ) (ks ks' : List Access) (list : List Item) (l l' : Place) (x : Item) → AreMadeAs s.objects (objects_of before) → Goes s before t ks list l → AreAccesses (objects_of ks) t ks' → StandsAt s t ks' (list ++ x ∷ []) l' → StepsOn ks ks' x → is_made_alone x ≡ true → Goes s before t ks' (list ++ x ∷ []) l'
+goes_on s before t ks ks' list l l' x made goes are stands steps alone =
+    let made' = own_made s before t ks goes.accesses made in
+    let own = own_accesses before t ks goes.accesses in
+    record {
+      accesses = before_accesses before t t ks ks' goes.accesses are;
+      at_ = stands;
+      promised = promises_compose s t (AreShown before) (AreShown ks) (AreShown ks') list (x ∷ []) goes.promised (one_is_promised s t (AreShown ks) (AreShown ks') x (steps_promise s t ks ks' x made' own steps alone));
+    }
 
 -- a body that has ended is whole
-pub is_body : (s : Scene) (xs : List RunObject) (before : List Token) (t : ℕ) (ks : List Token) (list : List Item) (l : Place) → Goes s xs before t ks list l → is_ended (local_of s t l) ≡ true → IsBody s xs t before list ks
-is_body s xs before t ks list l goes ended = record {
+is_body : (s : Scene) (before : List Access) (t : ℕ) (ks : List Access) (list : List Item) (l : Place) → Goes s before t ks list l → is_ended (local_of s t l) ≡ true → IsBody s t before list ks
+is_body s before t ks list l goes ended = record {
   promised = goes.promised;
-  whole = λ leaves_completing only. ap is_whole (goes.at_.stands leaves_completing only) ∙ ended;
+  whole = λ f shown leaves_completing agrees. ap is_whole (goes.at_.stands f shown leaves_completing agrees) ∙ ended;
   formed = goes.at_.formed;
 }
 
 -- ---- a turn of the loop
 
 -- what stays as it was is as far as it was
-pub stays_so_far : (s : Scene) (xs : List RunObject) (before : List Token) (t t' : ThreadNo) (ks ks' : Vec Token) (list list' : Vec Item) (l l' : Place) → t' ≡ t → ks' ≡ ks → list' ≡ list → l' ≡ l → Goes s xs before t.0 ks.items list.items l → Goes s xs before t'.0 ks'.items list'.items l'
-stays_so_far s xs before t t' ks ks' list list' l l' same_t same_ks same_list same_l goes = rw (same_t, same_ks, same_list, same_l) goes
+pub stays_so_far : (s : Scene) (before : List Access) (t t' : ThreadNo) (ks ks' : Vec Access) (list list' : Vec Item) (l l' : Place) → t' ≡ t → ks' ≡ ks → list' ≡ list → l' ≡ l → Goes s before t.0 ks.items list.items l → Goes s before t'.0 ks'.items list'.items l'
+stays_so_far s before t t' ks ks' list list' l l' same_t same_ks same_list same_l goes = rw (same_t, same_ks, same_list, same_l) goes
+
+pub still_underway : (s : Scene) (before : List Access) (v w : Standing) → (w.thread ≡ v.thread) × (w.accesses ≡ v.accesses) × (w.list ≡ v.list) × (w.local ≡ v.local) → IsUnderway s before v → IsUnderway s before w
+still_underway s before v w same goes = stays_so_far s before v.thread w.thread v.accesses w.accesses v.list w.list v.local w.local same.0 same.1 same.2 same.3 goes
+
+-- the forms of what is next are those of where it still stands
+pub next_forms : (s : Scene) (t t' : ThreadNo) (l l' : Place) (there : Bool) (fs : List Form) → there ≡ true → t' ≡ t → l' ≡ l → IsNext s t.0 l there fs → fs ≡ forms_at s t'.0 l'
+next_forms s t t' l l' there fs is a b next = rw (a, b) (subst (λ (u : Bool). IsNext s t.0 l u fs) is next)
 
 -- one item more that the thread made
-pub makes_one_more : (s : Scene) (xs : List RunObject) (before : List Token) (t t' : ThreadNo) (ks ks' : Vec Token) (list list' : Vec Item) (l l' : Place) (x : Item) → AreMadeAs s.objects xs → Goes s xs before t.0 ks.items list.items l → t' ≡ t → AreTokens xs t'.0 ks'.items → list'.items ≡ list.items ++ x ∷ [] → StepsOn xs ks.items ks'.items x → is_made_alone x ≡ true → StandsAt s t'.0 list'.items l' → Goes s xs before t'.0 ks'.items list'.items l'
-makes_one_more s xs before t t' ks ks' list list' l l' x made goes same are grown steps alone stands =
-    let are' = subst (λ (n : ThreadNo). AreTokens xs n.0 ks'.items) same are in
-    let stands' = subst (λ (n : ThreadNo). StandsAt s n.0 (list.items ++ x ∷ []) l') same (subst (λ (ys : List Item). StandsAt s t'.0 ys l') grown stands) in
-    rw (grown, same) (goes_on s xs before t.0 ks.items ks'.items list.items l l' x made goes are' stands' steps alone)
+pub makes_one_more : (s : Scene) (before : List Access) (t t' : ThreadNo) (ks ks' : Vec Access) (list list' : Vec Item) (l l' : Place) (x : Item) → AreMadeAs s.objects (objects_of before) → Goes s before t.0 ks.items list.items l → t' ≡ t → AreAccesses (objects_of ks.items) t'.0 ks'.items → list'.items ≡ list.items ++ x ∷ [] → StepsOn ks.items ks'.items x → is_made_alone x ≡ true → StandsAt s t'.0 ks'.items list'.items l' → Goes s before t'.0 ks'.items list'.items l'
+makes_one_more s before t t' ks ks' list list' l l' x made goes same are grown steps alone stands =
+    let are' = subst (λ (n : ThreadNo). AreAccesses (objects_of ks.items) n.0 ks'.items) same are in
+    let stands' = subst (λ (n : ThreadNo). StandsAt s n.0 ks'.items (list.items ++ x ∷ []) l') same (subst (λ (ys : List Item). StandsAt s t'.0 ks'.items ys l') grown stands) in
+    rw (grown, same) (goes_on s before t.0 ks.items ks'.items list.items l l' x made goes are' stands' steps alone)
 
 -- a body that has ended is whole, by equal parts
-pub body_of : (s : Scene) (xs : List RunObject) (before : List Token) (t t' : ThreadNo) (ks ks' : Vec Token) (list list' : Vec Item) (l : Place) → t' ≡ t → ks' ≡ ks → list' ≡ list → Goes s xs before t.0 ks.items list.items l → is_ended (local_of s t.0 l) ≡ true → IsBody s xs t'.0 before list'.items ks'.items
-body_of s xs before t t' ks ks' list list' l same_t same_ks same_list goes ended = rw (same_t, same_ks, same_list) (is_body s xs before t.0 ks.items list.items l goes ended)
+pub body_of : (s : Scene) (before : List Access) (t t' : ThreadNo) (ks ks' : Vec Access) (list list' : Vec Item) (l : Place) → t' ≡ t → ks' ≡ ks → list' ≡ list → Goes s before t.0 ks.items list.items l → is_ended (local_of s t.0 l) ≡ true → IsBody s t'.0 before list'.items ks'.items
+body_of s before t t' ks ks' list list' l same_t same_ks same_list goes ended = rw (same_t, same_ks, same_list) (is_body s before t.0 ks.items list.items l goes ended)
+
+-- ---- an item that was made
+
+-- a thread stands where it stood once its accesses have made an item, which isn't in its list yet
+made_at : (s : Scene) (t : ℕ) (ks ks' : List Access) (list : List Item) (l : Place) (x : Item) → AreMadeAs s.objects (objects_of ks) → AreAccesses (objects_of ks) t ks → StepsOn ks ks' x → is_made_alone x ≡ true → StandsAt s t ks list l → StandsAt s t ks' list l
+made_at s t ks ks' list l x made are steps alone at_ = stands_later s t ks ks' list l (some_fronts t ks are) later at_
+  where
+    later : (f : Fronts) → AreShown ks f → (g : Fronts) × AreShown ks' g × Grows f g
+    later f shown = let p = steps_promise s t ks ks' x made are steps alone f shown in (p.0, p.1, (p.2 (λ u. nothing) (λ u. nothing)).moved.grows)
+
+pub made_stands : (s : Scene) (t t' : ThreadNo) (ks ks' : List Access) (list list' : Vec Item) (l l' : Place) (x : Item) → AreMadeAs s.objects (objects_of ks) → AreAccesses (objects_of ks) t.0 ks → StepsOn ks ks' x → is_made_alone x ≡ true → StandsAt s t.0 ks list.items l → t' ≡ t → list' ≡ list → l' ≡ l → StandsAt s t'.0 ks' list'.items l'
+made_stands s t t' ks ks' list list' l l' x made are steps alone at_ a b c = rw (a, b, c) (made_at s t.0 ks ks' list.items l x made are steps alone at_)
+
+pub fits_still : (s : Scene) (t t' : ThreadNo) (l l' : Place) (x : Item) → t' ≡ t → l' ≡ l → is_of_one s (forms_at s t.0 l) x ≡ true → is_of_one s (forms_at s t'.0 l') x ≡ true
+fits_still s t t' l l' x a c h = rw (a, c) h
+
+pub formed_still : (s : Scene) (t t' : ThreadNo) (x : Item) → t' ≡ t → is_item s t.0 x ≡ true → is_item s t'.0 x ≡ true
+formed_still s t t' x a h = rw a h

@@ -1,157 +1,144 @@
--- New tokens that are split off main's.
-use Rattle.std.proofs.Common.{◌≡◌, ◌+◌, ◌-◌, ℕ, false, min, arith, ap, List, [], ◌∷◌, Some, None, MatchOption, slice_get, refl, sym, ◌∙◌, subst}
-use Rattle.cx_names.specs.declared.ThreadNo.{ThreadNo}
-use Rattle.cx_machine.specs.Mutex as mutex
-use Rattle.cx_machine.specs.Latch as latch
-use Rattle.cx_turn.specs.declared.pass.Pass.{Pass}
+-- New accesses that are split off main's.
+use Rattle.std.proofs.Common.{◌≡◌, ◌<◌, ◌≤◌, ◌+◌, ◌-◌, ◌*◌, ◌^◌, ℕ, min, List, [], ◌∷◌, ◌++◌, length, take, drop, get_or, slice_get, slice_set, Some, refl, sym, ap, ◌∙◌, subst, arith}
+use Rattle.std.specs.Global.{Vec}
+use Rattle.cx_machine.specs.Machine.{State}
 use Rattle.cx_turn.specs.declared.view.View.{View}
-use Rattle.cx_turn.specs.Views.{split_left, split_right, less_share, given, longer}
-use Rattle.cx_mutex.specs.declared.mutex.Mutex.{Mutex}
-use Rattle.cx_mutex.specs.declared.recursive.RecursiveMutex.{RecursiveMutex}
-use Rattle.cx_mutex.specs.declared.recursive.Level.{Level}
-use Rattle.cx_mutex.specs.Mutexes.{IsMutexPassWith, IsBare, IsHeldBy, KeepsOwner}
-use Rattle.cx_mutex.specs.Recursives.{IsRecursivePassWith}
-use Rattle.cx_sync.specs.declared.latch.Latch.{Latch}
-use Rattle.cx_sync.specs.Sync.{IsLatchPassWith}
-use Rattle.crossbeam_utils.specs.declared.cache_padded.CachePadded.{CachePadded}
-use Rattle.crossbeam_utils.specs.Padded.{padded_value}
-use Rattle.cx_work.specs.declared.objects.RunObject.{RunObject}
-use Rattle.cx_work.specs.declared.objects.RunObject.TheVariants as mades
-use Rattle.cx_work.specs.declared.token.Token.{Token}
-use Rattle.cx_work.specs.declared.token.Token.TheVariants as tokens
-use Rattle.cx_work.specs.declared.token.MutexToken.{MutexToken}
-use Rattle.cx_work.specs.declared.token.LevelToken.{LevelToken}
-use Rattle.cx_work.specs.Tokens.{IsMutexToken, IsLevelToken}
-use Rattle.cx_work.specs.RunNow.{IsNew, IsNewToken, share_of}
-use Rattle.cx_work.proofs.Rows.{left_is_new, right_is_new}
+use Rattle.cx_scene.specs.declared.declared.Object.{Object}
+use Rattle.cx_scene.specs.Scene.{Scene}
+use Rattle.cx_items.specs.Memory.{nothing}
+use Rattle.cx_asks.specs.Scenes.{taken_in}
+use Rattle.cx_kinds.specs.declared.access.Access.{Access}
+use Rattle.cx_kinds.specs.Accesses.{RunObject, object_of, Knows, kept_of, share_of}
+use Rattle.cx_kinds.specs.Acts.{CanSplit}
+use Rattle.cx_kinds.specs.Sights.{IsSeen, MaySplit, SplitInto}
+use Rattle.cx_work.specs.Accesses.{AreMadeAs, objects_of}
+use Rattle.cx_work.specs.RunNow.{IsNew, IsNewAccess, AreNew, AreAllNew, objects_of_all}
+use Rattle.cx_work.proofs.Going.{same_view}
+use Rattle.cx_work.proofs.Newness.{new_objects}
+use Rattle.cx_work.proofs.Rows.{RowMade, RowsMade, row_goes_on, rows_written, rows_end, less_left, read_at, at_get}
+use Rattle.cx_work.proofs.Shares.{RowShared, shares_go_on}
+use Rattle.cx_work.proofs.Stepping.{at_index}
 
--- ---- mutexes
+-- ---- before a split
 
-abbrev pub NewMutex : Mutex → ℕ → ℕ → ℕ → ℕ → MutexToken → Type 0
-NewMutex m seats t left splits k = IsMutexToken m k × (k.hold ≡ None) × ((v : View mutex.Mutex) × IsMutexPassWith m k.pass v × IsNew v seats t left splits)
+-- main's new access to the next object may be split
+pub is_seen : (x : RunObject) (seats t left splits : ℕ) (k : Access) → IsNewAccess x seats t left splits k → IsSeen (Knows k)
+is_seen x seats t left splits k new = record { view = new.view; seen = new.seen }
 
-pub mutex_left : (m : Mutex) (k k' : MutexToken) (seats left less splits calls : ℕ) → NewMutex m seats 0 left splits k → k'.hold ≡ k.hold → ((v : View mutex.Mutex) → IsMutexPassWith m k.pass v → IsMutexPassWith m k'.pass (split_left v calls)) → KeepsOwner m k.pass k'.pass → left - calls ≡ less → NewMutex m seats 0 less (splits + 1) k'
-mutex_left m k k' seats left less splits calls new same goes keeps is =
-    let token = new.0 in
-    let bare : IsBare m k.pass = subst (λ h. MatchOption h (IsBare m k.pass) (λ j. IsHeldBy m k.pass j)) new.1 token.hold in
-    let free : k'.hold ≡ None = same ∙ new.1 in
-    let there = goes new.2.0 new.2.1 in (
-      record {
-        pass = (split_left new.2.0 calls, there);
-        hold = subst (λ h. MatchOption h (IsBare m k'.pass) (λ j. IsHeldBy m k'.pass j)) (sym free) (keeps false bare);
-      },
-      free,
-      (split_left new.2.0 calls, there, left_is_new new.2.0 seats 0 left less splits calls new.2.2 is),
-    )
+pub may_split : (x : RunObject) (seats splits : ℕ) (k : Access) → splits + 1 < seats → IsNewAccess x seats 0 (131072 * (seats - splits)) splits k → MaySplit 131072 (Knows k)
+may_split x seats splits k room new = record {
+  may = λ v a.
+      let same = same_view k new.view v new.seen a in
+      let may = new.new.may in
+      let split = new.new.split in
+      let seated = new.new.seated in
+      subst (λ (u : View State). CanSplit u 131072) same (record { first = new.new.numbered; room = omega (arith, room, split, seated); may = omega (arith, room, may) });
+}
 
-pub mutex_right : (m : Mutex) (p : Pass mutex.Mutex) (k : MutexToken) (seats t left splits calls : ℕ) (v : View mutex.Mutex) → IsMutexPassWith m p v → IsNew v seats t left splits → k.hold ≡ None → ((w : View mutex.Mutex) → IsMutexPassWith m p w → IsMutexPassWith m k.pass (split_right w calls)) → IsBare m k.pass → NewMutex m seats (splits + 1) calls 0 k
-mutex_right m p k seats t left splits calls v known new free goes bare =
-    let there = goes v known in (
-      record {
-        pass = (split_right v calls, there);
-        hold = subst (λ h. MatchOption h (IsBare m k.pass) (λ j. IsHeldBy m k.pass j)) (sym free) bare;
-      },
-      free,
-      (split_right v calls, there, right_is_new v seats t left splits calls new),
-    )
+-- ---- after it
 
--- ---- recursive mutexes
+pub left_is_new : (x : RunObject) (k k' q : Access) (seats left less splits calls most : ℕ) → IsNewAccess x seats 0 left splits k → object_of k' ≡ object_of k → kept_of k' ≡ nothing → SplitInto calls most (Knows k) (Knows k') (Knows q) → left - calls ≡ less → IsNewAccess x seats 0 less (splits + 1) k'
+left_is_new x k k' q seats left less splits calls most new same free split is = record {
+  object = same ∙ new.object;
+  free = free;
+  view = _;
+  seen = split.first new.view new.seen;
+  new = record {
+    seated = new.new.seated;
+    numbered = new.new.numbered;
+    front = new.new.front;
+    mine = new.new.mine;
+    taken = new.new.taken;
+    may = ap (λ n. n - calls) new.new.may ∙ is;
+    split = ap (λ n. n + 1) new.new.split;
+  };
+}
 
-abbrev pub NewLevels : RecursiveMutex → ℕ → ℕ → ℕ → ℕ → LevelToken → Type 0
-NewLevels m seats t left splits k = IsLevelToken m k × (k.levels.items ≡ []) × ((v : View mutex.Mutex) × IsRecursivePassWith m k.pass v × IsNew v seats t left splits)
+pub right_is_new : (x : RunObject) (k k' q : Access) (seats left splits calls most : ℕ) → IsNewAccess x seats 0 left splits k → object_of q ≡ object_of k → kept_of q ≡ nothing → SplitInto calls most (Knows k) (Knows k') (Knows q) → IsNewAccess x seats (splits + 1) calls 0 q
+right_is_new x k k' q seats left splits calls most new same free split =
+    let r = split.second new.view new.seen in
+    record {
+      object = same ∙ new.object;
+      free = free;
+      view = r.0;
+      seen = r.1;
+      new = record {
+        seated = r.2.seats ∙ new.new.seated;
+        numbered = r.2.number ∙ ap (λ n. n + 1) new.new.split;
+        front = r.2.front ∙ new.new.front;
+        mine = r.2.mine;
+        taken = r.2.taken;
+        may = r.2.left;
+        split = r.2.splits;
+      };
+    }
 
-no_levels : (n : ThreadNo) (ls : List Level) → ls ≡ [] → (i : ℕ) (l : Level) → slice_get ls i ≡ Some l → l.by ≡ n
-no_levels n [] none i l e = cc
-no_levels n (k ∷ ks) none i l e = cc
-
-pub levels_left : (m : RecursiveMutex) (k k' : LevelToken) (seats left less splits calls : ℕ) → NewLevels m seats 0 left splits k → k'.levels.items ≡ k.levels.items → ((v : View mutex.Mutex) → IsRecursivePassWith m k.pass v → IsRecursivePassWith m k'.pass (split_left v calls)) → left - calls ≡ less → NewLevels m seats 0 less (splits + 1) k'
-levels_left m k k' seats left less splits calls new same goes is =
-    let there = goes new.2.0 new.2.1 in (
-      record {
-        pass = (split_left new.2.0 calls, there);
-        own = no_levels k'.pass.number k'.levels.items (same ∙ new.1);
-      },
-      same ∙ new.1,
-      (split_left new.2.0 calls, there, left_is_new new.2.0 seats 0 left less splits calls new.2.2 is),
-    )
-
-pub levels_right : (m : RecursiveMutex) (p : Pass mutex.Mutex) (k : LevelToken) (seats t left splits calls : ℕ) (v : View mutex.Mutex) → IsRecursivePassWith m p v → IsNew v seats t left splits → k.levels.items ≡ [] → ((w : View mutex.Mutex) → IsRecursivePassWith m p w → IsRecursivePassWith m k.pass (split_right w calls)) → NewLevels m seats (splits + 1) calls 0 k
-levels_right m p k seats t left splits calls v known new none goes =
-    let there = goes v known in (
-      record {
-        pass = (split_right v calls, there);
-        own = no_levels k.pass.number k.levels.items none;
-      },
-      none,
-      (split_right v calls, there, right_is_new v seats t left splits calls new),
-    )
-
--- ---- latches
-
-nothing_longer : {A : Type 0} (xs ys : List A) → xs ≡ [] → ys ≡ [] → longer xs ys ≡ []
-nothing_longer xs ys a b = rw (a, b) refl
-
--- a share that is given leaves a new pass new
-pub share_is_new : {M : Type 0} (v : View M) (seats t left splits n : ℕ) → IsNew v seats t left splits → IsNew (less_share v n) seats t left splits
-share_is_new v seats t left splits n new = record { seated = new.seated; numbered = new.numbered; front = new.front; mine = new.mine; taken = new.taken; may = new.may; split = new.split }
-
-pub given_is_new : {M : Type 0} (w v : View M) (seats t u left more splits others n : ℕ) → IsNew w seats t left splits → IsNew v seats u more others → IsNew (given w v n) seats t left splits
-given_is_new w v seats t u left more splits others n new giver = record { seated = new.seated; numbered = new.numbered; front = nothing_longer w.front v.front new.front giver.front; mine = new.mine; taken = new.taken; may = new.may; split = new.split }
-
--- the latch of a new token, and its pass
-abbrev LatchNew : CachePadded Latch → ℕ → ℕ → ℕ → ℕ → Pass latch.Latch → Type 0
-LatchNew l seats t left splits p = (v : View latch.Latch) × IsLatchPassWith (padded_value l) p v × IsNew v seats t left splits
-
-latch_in : (x : RunObject) (l : CachePadded Latch) (k : Token) (p : Pass latch.Latch) (seats t left splits : ℕ) → x ≡ mades.Latch l → k ≡ tokens.Latch p → IsNewToken x seats t left splits k → LatchNew l seats t left splits p
-latch_in x l k p seats t left splits is_x is_k new = subst (λ (y : RunObject). IsNewToken y seats t left splits (tokens.Latch p)) is_x (subst (λ (j : Token). IsNewToken x seats t left splits j) is_k new)
-
-abbrev pub Splits : Latch → Pass latch.Latch → Pass latch.Latch → Pass latch.Latch → ℕ → Type 0
-Splits l p p1 q1 calls = ((v : View latch.Latch) → IsLatchPassWith l p v → IsLatchPassWith l p1 (split_left v calls)) × ((v : View latch.Latch) → IsLatchPassWith l p v → IsLatchPassWith l q1 (split_right v calls))
-
-abbrev pub Gives : Latch → Pass latch.Latch → Pass latch.Latch → Pass latch.Latch → Pass latch.Latch → ℕ → Type 0
-Gives l p1 q1 p2 q2 n = ((v : View latch.Latch) → IsLatchPassWith l p1 v → IsLatchPassWith l p2 (less_share v n)) × ((v w : View latch.Latch) → IsLatchPassWith l p1 v → IsLatchPassWith l q1 w → IsLatchPassWith l q2 (given w v n))
-
-pub latch_left : (x : RunObject) (l : CachePadded Latch) (a b : Latch) (k : Token) (p p1 p2 q1 q2 : Pass latch.Latch) (seats left less splits calls n : ℕ) → x ≡ mades.Latch l → k ≡ tokens.Latch p → a ≡ padded_value l → b ≡ padded_value l → IsNewToken x seats 0 left splits k → Splits a p p1 q1 calls → Gives b p1 q1 p2 q2 n → left - calls ≡ less → IsNewToken x seats 0 less (splits + 1) (tokens.Latch p2)
-latch_left x l a b k p p1 p2 q1 q2 seats left less splits calls n is_x is_k is_a is_b new splits_ gives is =
-    let new_ = latch_in x l k p seats 0 left splits is_x is_k new in
-    let split = subst (λ (y : Latch). Splits y p p1 q1 calls) is_a splits_ in
-    let gave = subst (λ (y : Latch). Gives y p1 q1 p2 q2 n) is_b gives in
-    let made : LatchNew l seats 0 less (splits + 1) p2 = (less_share (split_left new_.0 calls) n, gave.0 (split_left new_.0 calls) (split.0 new_.0 new_.1), share_is_new (split_left new_.0 calls) seats 0 less (splits + 1) n (left_is_new new_.0 seats 0 left less splits calls new_.2 is)) in
-    subst (λ (y : RunObject). IsNewToken y seats 0 less (splits + 1) (tokens.Latch p2)) (sym is_x) made
-
-pub latch_right : (x : RunObject) (l : CachePadded Latch) (a b : Latch) (k : Token) (p p1 p2 q1 q2 : Pass latch.Latch) (seats left splits calls n : ℕ) → x ≡ mades.Latch l → k ≡ tokens.Latch p → a ≡ padded_value l → b ≡ padded_value l → IsNewToken x seats 0 left splits k → Splits a p p1 q1 calls → Gives b p1 q1 p2 q2 n → IsNewToken x seats (splits + 1) calls 0 (tokens.Latch q2)
-latch_right x l a b k p p1 p2 q1 q2 seats left splits calls n is_x is_k is_a is_b new splits_ gives =
-    let new_ = latch_in x l k p seats 0 left splits is_x is_k new in
-    let split = subst (λ (y : Latch). Splits y p p1 q1 calls) is_a splits_ in
-    let gave = subst (λ (y : Latch). Gives y p1 q1 p2 q2 n) is_b gives in
-    let v = split_left new_.0 calls in
-    let w = split_right new_.0 calls in
-    let giver : IsNew v seats 0 (left - calls) (splits + 1) = left_is_new new_.0 seats 0 left (left - calls) splits calls new_.2 refl in
-    let taker : IsNew w seats (splits + 1) calls 0 = right_is_new new_.0 seats 0 left splits calls new_.2 in
-    let made : LatchNew l seats (splits + 1) calls 0 q2 = (given w v n, gave.1 v w (split.0 new_.0 new_.1) (split.1 new_.0 new_.1), given_is_new w v seats (splits + 1) 0 calls (left - calls) 0 (splits + 1) n taker giver) in
-    subst (λ (y : RunObject). IsNewToken y seats (splits + 1) calls 0 (tokens.Latch q2)) (sym is_x) made
-
--- what a latch's pass has of the count, once main's was split and gave
-less_given : (s m n : ℕ) → n ≡ min m s → s - n ≡ s - m
+less_given : (s m n : ℕ) → s - min m s ≡ n → n ≡ s - m
 less_given s m n is = omega (arith, is)
 
-pub latch_shares : (x : RunObject) (l : CachePadded Latch) (a b : Latch) (k : Token) (p p1 p2 q1 q2 : Pass latch.Latch) (seats left splits calls n m r : ℕ) → x ≡ mades.Latch l → k ≡ tokens.Latch p → a ≡ padded_value l → b ≡ padded_value l → IsNewToken x seats 0 left splits k → Splits a p p1 q1 calls → Gives b p1 q1 p2 q2 n → r ≡ p1.share → n ≡ min m r → (p2.share ≡ share_of k - m) × (q2.share ≡ min m (share_of k))
-latch_shares x l a b k p p1 p2 q1 q2 seats left splits calls n m r is_x is_k is_a is_b new splits_ gives read is =
-    let new_ = latch_in x l k p seats 0 left splits is_x is_k new in
-    let split = subst (λ (y : Latch). Splits y p p1 q1 calls) is_a splits_ in
-    let gave = subst (λ (y : Latch). Gives y p1 q1 p2 q2 n) is_b gives in
-    let v = split_left new_.0 calls in
-    let w = split_right new_.0 calls in
-    let at_v = split.0 new_.0 new_.1 in
-    let at_w = split.1 new_.0 new_.1 in
-    let had : new_.0.share ≡ p.share = new_.1.counted.part in
-    let first : new_.0.share ≡ p1.share = at_v.counted.part in
-    let less : new_.0.share - n ≡ p2.share = (gave.0 v at_v).counted.part in
-    let more : 0 + n ≡ q2.share = (gave.1 v w at_v at_w).counted.part in
-    let shared : share_of k ≡ p.share = ap share_of is_k in
-    let same : r ≡ share_of k = read ∙ (sym first ∙ (had ∙ sym shared)) in
-    let is' : n ≡ min m (share_of k) = subst (λ j. n ≡ min m j) same is in
-    let whole : new_.0.share ≡ share_of k = had ∙ sym shared in
-    let taken : share_of k - n ≡ p2.share = subst (λ j. j - n ≡ p2.share) whole less in
-    let given_ : n ≡ q2.share = omega (arith, more) in
-    (sym taken ∙ less_given (share_of k) m n is', sym given_ ∙ is')
+-- the shares of both
+pub split_shares : (x : RunObject) (k k' q : Access) (seats t left splits calls most : ℕ) → IsNewAccess x seats t left splits k → SplitInto calls most (Knows k) (Knows k') (Knows q) → (share_of k' ≡ share_of k - most) × (share_of q ≡ min most (share_of k))
+split_shares x k k' q seats t left splits calls most new split =
+    let r = split.second new.view new.seen in
+    let had = new.seen.shared in
+    let less : new.view.share - min most new.view.share ≡ share_of k' = (split.first new.view new.seen).shared in
+    let less' : share_of k - min most (share_of k) ≡ share_of k' = subst (λ n. n - min most n ≡ share_of k') had less in (
+      less_given (share_of k) most (share_of k') less',
+      sym r.1.shared ∙ (r.2.share ∙ ap (λ n. min most n) had),
+    )
+
+-- a share is less than 2^32
+pub share_small : (k : Access) (v : View State) → Knows k v → share_of k ≤ 4294967295
+share_small k v a =
+    let had = a.shared in
+    let present = a.known.present in
+    let part = present.3.share in
+    let pool = present.3.pool in
+    omega (arith, had, part, pool)
+
+-- ---- the access to the next object, in a row
+
+module _ (xs : List RunObject) (threads splits : ℕ) (o : ℕ) (main row : List Access) (made : RowMade xs threads splits (131072 * (threads - splits)) (131072 * (threads - (splits + 1))) o main row) (d : Access) (low : o < length main) where
+  next_object : (x : RunObject) × (slice_get xs o ≡ Some x)
+  next_object = let count = made.count in at_index xs o (omega (arith, low, count))
+
+  next_new : IsNewAccess next_object.0 threads 0 (131072 * (threads - splits)) splits (get_or main o d)
+  next_new = made.rest o next_object.0 (get_or main o d) (omega arith) next_object.1 (at_get main o d low)
+
+  pub next_seen : (k : Access) → k ≡ get_or main o d → IsSeen (Knows k)
+  next_seen k read = subst (λ (j : Access). IsSeen (Knows j)) (sym read) (is_seen next_object.0 threads 0 (131072 * (threads - splits)) splits (get_or main o d) next_new)
+
+  pub next_may : (k : Access) → k ≡ get_or main o d → splits + 1 < threads → MaySplit 131072 (Knows k)
+  next_may k read room = subst (λ (j : Access). MaySplit 131072 (Knows j)) (sym read) (may_split next_object.0 threads splits (get_or main o d) room next_new)
+
+  pub next_free : (k : Access) → k ≡ get_or main o d → kept_of k ≡ nothing
+  next_free k read = ap kept_of read ∙ next_new.free
+
+  pub next_row : (k' q : Access) (most : ℕ) → splits + 1 < threads → object_of k' ≡ object_of (get_or main o d) → object_of q ≡ object_of (get_or main o d) → kept_of k' ≡ nothing → kept_of q ≡ nothing → SplitInto 131072 most (Knows (get_or main o d)) (Knows k') (Knows q) → RowMade xs threads splits (131072 * (threads - splits)) (131072 * (threads - (splits + 1))) (o + 1) (slice_set main o k') (row ++ q ∷ [])
+  next_row k' q most room same same' free free' split =
+      row_goes_on xs threads splits (131072 * (threads - splits)) (131072 * (threads - (splits + 1))) o main row next_object.0 k' q made next_object.1
+      (left_is_new next_object.0 (get_or main o d) k' q threads (131072 * (threads - splits)) (131072 * (threads - (splits + 1))) splits 131072 most next_new same free split (less_left threads splits room))
+      (right_is_new next_object.0 (get_or main o d) k' q threads (131072 * (threads - splits)) splits 131072 most next_new same' free' split)
+
+  pub next_shares : (s : Scene) (t : ℕ) (before : List Access) (k' q : Access) (most : ℕ) → RowShared s t o before main row → most ≡ min 4294967295 (taken_in s t o) → SplitInto 131072 most (Knows (get_or main o d)) (Knows k') (Knows q) → RowShared s t (o + 1) before (slice_set main o k') (row ++ q ∷ [])
+  next_shares s t before k' q most shared takes split =
+      let shares = split_shares next_object.0 (get_or main o d) k' q threads 0 (131072 * (threads - splits)) splits 131072 most next_new split in
+      shares_go_on s t o before main row d (get_or main o d) k' q most shared low made.long refl takes (share_small (get_or main o d) next_new.view next_new.seen) shares.0 shares.1
+
+-- ---- all rows
+
+pub rows_next : (xs : List RunObject) (threads n : ℕ) (main : Vec Access) (slice written : List Access) (rows rows' : List (Vec Access)) (row : Vec Access) → slice ≡ main.items → n + 1 < threads → RowsMade xs threads n main.items rows → AreNew (objects_of slice) threads 0 (131072 * (threads - (n + 1))) (n + 1) written → AreNew (objects_of slice) threads (n + 1) 131072 0 row.items → rows' ≡ rows ++ row ∷ [] → RowsMade xs threads (n + 1) (take main.len (written ++ drop (length written) main.items)) rows'
+rows_next xs threads n main slice written rows rows' row is room made new one more =
+    let same : objects_of slice ≡ xs = ap objects_of is ∙ new_objects xs threads 0 (131072 * (threads - n)) n main.items made.first in
+    rows_written xs threads n main written rows rows' row room main.ok.0 made (subst (λ (ys : List RunObject). AreNew ys threads 0 (131072 * (threads - (n + 1))) (n + 1) written) same new) (subst (λ (ys : List RunObject). AreNew ys threads (n + 1) 131072 0 row.items) same one) more
+
+pub rows_first : (xs : List RunObject) (threads n : ℕ) (main : Vec Access) (slice : List Access) (rows : List (Vec Access)) → slice ≡ main.items → RowsMade xs threads n main.items rows → AreNew (objects_of slice) threads 0 (131072 * (threads - n)) n slice
+rows_first xs threads n main slice rows is made =
+    let same : objects_of main.items ≡ xs = new_objects xs threads 0 (131072 * (threads - n)) n main.items made.first in
+    rw is (subst (λ (ys : List RunObject). AreNew ys threads 0 (131072 * (threads - n)) n main.items) (sym same) made.first)
+
+-- the passes are those of the objects of main's
+pub rows_all : (ds : List Object) (xs : List RunObject) (threads n : ℕ) (main : Vec Access) (rows all : List (Vec Access)) → AreMadeAs ds xs → threads ≤ n + 1 → RowsMade xs threads n main.items rows → all ≡ main ∷ rows → AreMadeAs ds (objects_of_all all) × AreAllNew (objects_of_all all) threads all
+rows_all ds xs threads n main rows all declared past made is =
+    let same : objects_of main.items ≡ xs = new_objects xs threads 0 (131072 * (threads - n)) n main.items made.first in
+    rw is (rw same (declared, rows_end xs threads n main rows past made))

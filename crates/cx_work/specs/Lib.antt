@@ -1,5 +1,5 @@
-pub mod Forms
-pub mod Tokens
+pub mod Accesses
+pub mod Acting
 pub mod Steps
 pub mod Bodies
 pub mod RunNow

@@ -1,114 +1,67 @@
-//! Items, and the cases that cannot be.
-ghost use Rattle.std.specs.Prelude.{◌≡◌, pos, IfOk};
-ghost use Rattle.cx_items.specs.declared.item.Item.TheVariants as items;
-ghost use Rattle.cx_machine.specs.Meaning.{change, look_of};
-ghost use Rattle.cx_work.specs.Steps.{IsActIn, IsActOnMade, StepsOn};
-ghost use Rattle.cx_work.specs.Tokens.{IsToken, AreTokens, IsOn, TokenDid};
+//! Acts on objects, as a text offers them.
+ghost use Rattle.std.specs.Prelude.{◌≡◌, ◌∷◌, [], ℕ, IfOk, IfSome};
+ghost use Rattle.cx_items.specs.declared.form.Form.TheVariants as words;
+ghost use Rattle.cx_work.specs.Accesses.{AreAccesses, objects_of};
+ghost use Rattle.cx_work.specs.Acting.{AsksOn, IsLeft};
 
-use crate::act::Act;
-use crate::objects::RunObject;
-use crate::syncs::{act_on_latch, act_on_semaphore};
-use crate::token::Token;
-use cx_items::Item;
-use cx_machine::{Entry, Look, Op};
-use cx_names::{NoMemory, ObjectNo, Reply, ThreadNo};
+use cx_asks::ask_of;
+use cx_items::{Form, Item};
+use cx_kinds::Access;
+use cx_names::{NoMemory, Reply};
 use std::sync::Wait;
 
-/// The answer where a text or a token isn't what a scenario makes of it.
-pub(crate) fn cannot_be() -> NoMemory {
+/// The answer where a text or an access isn't what a scenario makes of it.
+fn cannot_be() -> NoMemory {
     NoMemory
 }
 
-/// The item of a change of object `o`, at position `at`.
-pub(crate) fn change_item(o: ObjectNo, by: ThreadNo, op: Op, a: u32, reply: Reply, at: u32) -> Item
-    ensures { result ≡ items.Change o at (change by op (pos a) (pos 0) reply) }
+/// The reply that comes next, where it alone does by these forms.
+pub(crate) fn reply_in(forms: &[Form]) -> Option<Reply>
+    ensures { IfSome result (λ r. forms.now ≡ words.Says r ∷ []) }
 {
-    let a = i64::from(a);
-    Item::Change(
-        o,
-        at,
-        Entry {
-            by,
-            op,
-            a,
-            b: 0,
-            reply,
-        },
-    )
-}
-
-/// The item of a look at object `o`, with the stamp `at`.
-pub(crate) fn look_item(o: ObjectNo, by: ThreadNo, op: Op, a: u32, reply: Reply, at: u32) -> Item
-    ensures { result ≡ items.Look o (look_of by op (pos a) (pos 0) reply at) }
-{
-    let a = i64::from(a);
-    Item::Look(
-        o,
-        Look {
-            by,
-            op,
-            a,
-            b: 0,
-            reply,
-            at,
-        },
-    )
-}
-
-impl Token {
-    /// Makes an act of thread `by` on the object, which has number `o`.
-    pub(crate) fn act<R: Wait>(
-        &mut self,
-        rt: &R,
-        object: &RunObject,
-        by: ThreadNo,
-        o: ObjectNo,
-        act: Act,
-    ) -> Result<Item, NoMemory>
-        requires { IsToken object.now by.0 self.old }
-        ensures token { IsToken object.now by.0 self.new }
-        ensures item { IfOk result (λ x. IsActOnMade object.now o by act x) }
-        ensures on { IfOk result (λ x. IsOn o x) }
-        ensures did { IfOk result (λ x. TokenDid object.now self.old self.new x) }
-    {
-        match object {
-            RunObject::Mutex(mutex) => match self {
-                Token::Mutex(token) => token.act(rt, mutex, o, act),
-                _ => unreachable!(),
-            },
-            RunObject::Recursive(mutex) => match self {
-                Token::Recursive(token) => token.act(rt, mutex, o, act),
-                _ => unreachable!(),
-            },
-            RunObject::Semaphore(semaphore) => match self {
-                Token::Semaphore(pass) => act_on_semaphore(rt, semaphore, pass, o, act),
-                _ => unreachable!(),
-            },
-            RunObject::Latch(latch) => match self {
-                Token::Latch(pass) => act_on_latch(rt, latch, pass, o, act),
-                _ => unreachable!(),
-            },
-        }
+    match forms {
+        [Form::Says(reply)] => Some(*reply),
+        _ => None,
     }
 }
 
-/// Makes an act of thread `by` on object `o`.
-pub(crate) fn act_on<R: Wait>(
+/// Makes what these forms ask of an object. Waits until its state allows one of them.
+pub(crate) fn acted<R: Wait>(
     rt: &R,
-    objects: &[RunObject],
-    tokens: &mut [Token],
-    by: ThreadNo,
-    o: ObjectNo,
-    act: Act,
+    forms: &[Form],
+    accesses: &mut Vec<Access>,
 ) -> Result<Item, NoMemory>
-    requires { AreTokens objects.now by.0 tokens.old }
-    ensures tokens { AreTokens objects.now by.0 tokens.new }
-    ensures item { IfOk result (λ x. IsActIn objects.now o by act x) }
-    ensures steps { IfOk result (λ x. StepsOn objects.now tokens.old tokens.new x) }
+    requires accesses { (t : ℕ) × AreAccesses (objects_of accesses.old.items) t accesses.old.items }
+    ensures accesses { (t : ℕ) → AreAccesses (objects_of accesses.old.items) t accesses.old.items → AreAccesses (objects_of accesses.old.items) t accesses.new.items }
+    ensures asked { IfOk result (λ x. AsksOn forms.now accesses.old.items accesses.new.items x) }
 {
+    let Some((o, ask)) = ask_of(forms) else {
+        return Err(cannot_be());
+    };
     let i = o.0 as usize;
-    if i >= objects.len() || i >= tokens.len() {
+    if i >= accesses.len() {
         return Err(cannot_be());
     }
-    tokens[i].act(rt, &objects[i], by, o, act)
+    match accesses[i].act(rt, o, ask) {
+        Some(item) => Ok(item),
+        None => Err(cannot_be()),
+    }
+}
+
+/// Whether the item is a change that leaves its barrier completing, where these accesses have just made it.
+pub(crate) fn leaves_completing(accesses: &[Access], item: &Item) -> bool
+    requires { (t : ℕ) × AreAccesses (objects_of accesses.now) t accesses.now }
+    ensures { IsLeft accesses.now item.now result }
+{
+    match item {
+        Item::Change(o, ..) => {
+            let i = o.0 as usize;
+            if i < accesses.len() {
+                accesses[i].is_completing()
+            } else {
+                false
+            }
+        }
+        _ => false,
+    }
 }

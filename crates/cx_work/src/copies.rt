@@ -2,7 +2,8 @@
 ghost use Rattle.std.specs.Prelude.{◌≡◌, map, true, IfOk};
 ghost use Rattle.std.specs.List.{list_all};
 ghost use Rattle.cx_scene.specs.Scene.{scene_of};
-ghost use Rattle.cx_work.specs.RunNow.{IsRunNow, is_object_now, is_call_now};
+ghost use Rattle.cx_asks.specs.Scenes.{is_object_now};
+ghost use Rattle.cx_work.specs.RunNow.{IsRunNow, is_call_now};
 
 use cx_names::NoMemory;
 use cx_scene::{Call, Object, Plan};

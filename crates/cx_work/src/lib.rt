@@ -1,32 +1,24 @@
 //! One thread's body on real objects.
 //!
-//! - `Objects`: the objects of a scenario, which threads share, and `Passes`: each thread's tokens on them.
-//! - `Token`: a thread's pass on one object, with what the thread holds of it.
+//! - `Objects`: the scenario whose objects threads share, and `Passes`: each thread's accesses to them.
 //! - `Standing`: where a thread stands in its body, and the list of the items that it has made.
 //! - `Gate`: what is called round each call of a text. `Open` does nothing.
 //! - `Work`: the job of a thread, and `Ended`: what it gives. `room_for`: how many items a body's list has room for.
+//!
+//! What a thread has of one object, of whichever kind, is an `Access` of `cx_kinds`; here no kind is named but where a
+//! scenario is copied.
 #![tactic(auto)]
 
-mod act;
 mod acting;
 mod copies;
 mod gate;
-mod levels;
 mod making;
-mod mutexes;
 mod objects;
 mod standing;
-mod syncs;
-mod token;
 mod work;
 
-pub use act::{Act, Next};
 pub use gate::{Gate, Open};
 pub use making::Passes;
-pub use objects::{Objects, RunObject};
+pub use objects::Objects;
 pub use standing::Standing;
-pub use token::{LevelToken, MutexToken, Token};
 pub use work::{Ended, Work, room_for};
-
-#[cfg(test)]
-mod tests;

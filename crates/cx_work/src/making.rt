@@ -1,71 +1,24 @@
-//! Making the objects of a scenario, and each thread's tokens.
+//! Making the objects of a scenario, and each thread's accesses.
 ghost use Rattle.std.specs.Prelude.{◌≡◌, ◌≤◌, ◌<◌, ◌+◌, ◌-◌, ◌*◌, ◌^◌, ℕ, min, true, length, slice_get, Some, vec_len, IfOk, OnOk};
 ghost use Rattle.std.specs.List.{list_all};
 ghost use Rattle.cx_scene.specs.Scene.{scene_of};
-ghost use Rattle.cx_work.specs.RunNow.{IsRunNow, is_object_now, IsNewToken, AreNew, AreAllNew, share_of, share_at, count_of, count_at, taken_in, takes_of, takings, AreGiven, AreShared};
-ghost use Rattle.cx_work.specs.Tokens.{IsMadeAs, AreMadeAs};
+ghost use Rattle.cx_asks.specs.Scenes.{is_object_now, count_at, takes_of, takings};
+ghost use Rattle.cx_work.specs.RunNow.{IsRunNow, AreNew, AreAllNew, objects_of_all, share_at, AreGiven, AreShared};
+ghost use Rattle.cx_work.specs.Accesses.{AreMadeAs, objects_of};
 
 use crate::copies::copy_of;
-use crate::objects::{Objects, RunObject};
-use crate::token::{LevelToken, MutexToken, Token};
-use crossbeam_utils::CachePadded;
-use cx_mutex::{Mutex, RecursiveMutex};
+use crate::objects::Objects;
+use cx_kinds::{Access, made};
 use cx_names::{NoMemory, ObjectNo, PASS_CHANGES, ThreadNo};
 use cx_scene::{Call, Object, Plan};
-use cx_sync::{Latch, Semaphore};
 use std::alloc::Global;
 use std::sync::Arc;
 
-/// Each thread's tokens, main's first.
+/// Each thread's accesses to the objects, main's first.
 #[derive(Drop)]
 pub struct Passes {
     /// By the number of the thread, and then by that of the object.
-    pub threads: Vec<Vec<Token>>,
-}
-
-/// An object of this declaration for so many threads, and main's token of it.
-fn made_of(alloc: Global, object: &Object, threads: u32) -> Result<(RunObject, Token), NoMemory>
-    requires now { is_object_now object.now ≡ true }
-    requires threads { (1 ≤ threads) × (threads ≤ 64) }
-    ensures object { IfOk result (λ r. IsMadeAs object.now r.0) }
-    ensures token { IfOk result (λ r. IsNewToken r.0 threads 0 (131072 * threads) 0 r.1) }
-    ensures share { IfOk result (λ r. share_of r.1 ≡ count_of object.now) }
-{
-    let calls = PASS_CHANGES * threads;
-    match object {
-        Object::Mutex { numbers } => {
-            let (mutex, pass) = Mutex::new(alloc, *numbers, threads, calls)?;
-            let token = MutexToken { pass, hold: None };
-            Ok((
-                RunObject::Mutex(CachePadded::new(mutex)),
-                Token::Mutex(token),
-            ))
-        }
-        Object::Recursive => {
-            let (mutex, pass) = RecursiveMutex::new(alloc, threads, calls)?;
-            let levels = Vec::new(alloc);
-            let token = LevelToken { pass, levels };
-            Ok((
-                RunObject::Recursive(CachePadded::new(mutex)),
-                Token::Recursive(token),
-            ))
-        }
-        Object::Semaphore { count, max } => {
-            let (semaphore, pass) = Semaphore::new(alloc, *count, *max, threads, calls)?;
-            Ok((
-                RunObject::Semaphore(CachePadded::new(semaphore)),
-                Token::Semaphore(pass),
-            ))
-        }
-        Object::Latch { count } => {
-            let (latch, pass) = Latch::new(alloc, *count, threads, calls)?;
-            Ok((
-                RunObject::Latch(CachePadded::new(latch)),
-                Token::Latch(pass),
-            ))
-        }
-        _ => unreachable!(),
-    }
+    pub threads: Vec<Vec<Access>>,
 }
 
 /// The object at place `o`.
@@ -97,106 +50,51 @@ fn taken_by(calls: &[Call], o: ObjectNo) -> u32
     taken
 }
 
-/// A token for the next thread, split off main's, which was split `splits` times. Of a latch it gets
-/// this share.
-fn split_off(
-    alloc: Global,
-    object: &RunObject,
-    main: &mut Token,
-    threads: u32,
-    splits: u32,
-    share: u32,
-) -> Token
-    requires main { IsNewToken object.now threads 0 (131072 * (threads - splits)) splits main.old }
-    requires room { splits + 1 < threads }
-    ensures main { IsNewToken object.now threads 0 (131072 * (threads - (splits + 1))) (splits + 1) main.new }
-    ensures token { IsNewToken object.now threads (splits + 1) 131072 0 result }
-    ensures small { share_of main.old ≤ 4294967295 }
-    ensures less { share_of main.new ≡ share_of main.old - share }
-    ensures share { share_of result ≡ min share (share_of main.old) }
-{
-    match object {
-        RunObject::Mutex(mutex) => match main {
-            Token::Mutex(token) => {
-                let pass = mutex.split(&mut token.pass, PASS_CHANGES);
-                Token::Mutex(MutexToken { pass, hold: None })
-            }
-            _ => unreachable!(),
-        },
-        RunObject::Recursive(mutex) => match main {
-            Token::Recursive(token) => {
-                let pass = mutex.split(&mut token.pass, PASS_CHANGES);
-                let levels = Vec::new(alloc);
-                Token::Recursive(LevelToken { pass, levels })
-            }
-            _ => unreachable!(),
-        },
-        RunObject::Semaphore(semaphore) => match main {
-            Token::Semaphore(pass) => Token::Semaphore(semaphore.split(pass, PASS_CHANGES)),
-            _ => unreachable!(),
-        },
-        RunObject::Latch(latch) => match main {
-            Token::Latch(pass) => {
-                let mut other = latch.split(pass, PASS_CHANGES);
-                let share = share.min(pass.share());
-                latch.give(pass, &mut other, share);
-                Token::Latch(other)
-            }
-            _ => unreachable!(),
-        },
-    }
-}
-
-/// The tokens of the next thread, split off main's, which were split `splits` times.
+/// The accesses of the next thread, split off main's, which were split `splits` times.
 fn row_of(
     alloc: Global,
     plan: &Plan,
-    objects: &[RunObject],
-    main: &mut [Token],
+    main: &mut [Access],
     threads: u32,
     splits: u32,
-) -> Result<Vec<Token>, NoMemory>
-    requires main { AreNew objects.now threads 0 (131072 * (threads - splits)) splits main.old }
+) -> Result<Vec<Access>, NoMemory>
+    requires main { AreNew (objects_of main.old) threads 0 (131072 * (threads - splits)) splits main.old }
     requires room { splits + 1 < threads }
-    ensures main { OnOk result (AreNew objects.now threads 0 (131072 * (threads - (splits + 1))) (splits + 1) main.new) }
-    ensures row { IfOk result (λ r. AreNew objects.now threads (splits + 1) 131072 0 r.items) }
+    ensures main { OnOk result (AreNew (objects_of main.old) threads 0 (131072 * (threads - (splits + 1))) (splits + 1) main.new) }
+    ensures row { IfOk result (λ r. AreNew (objects_of main.old) threads (splits + 1) 131072 0 r.items) }
     ensures shares { IfOk result (λ r. AreGiven (scene_of plan.now) (splits + 1) main.old main.new r.items) }
 {
+    let _ = threads;
     let thread = ThreadNo(splits + 1);
-    let mut row = Vec::with_capacity(alloc, objects.len())?;
-    for o in 0..objects.len() {
+    let mut row = Vec::with_capacity(alloc, main.len())?;
+    for o in 0..main.len() {
         let share = taken_by(plan.body(thread), object_at(o)?);
-        row.push(split_off(alloc, &objects[o], &mut main[o], threads, splits, share))?;
+        let access = main[o].split(PASS_CHANGES, share)?;
+        row.push(access)?;
     }
     Ok(row)
 }
 
-/// The objects of these declarations for so many threads, and main's tokens of them.
-fn all_of(
-    alloc: Global,
-    declared: &[Object],
-    threads: u32,
-) -> Result<(Vec<RunObject>, Vec<Token>), NoMemory>
+/// Main's accesses to objects of these declarations for so many threads.
+fn all_of(alloc: Global, declared: &[Object], threads: u32) -> Result<Vec<Access>, NoMemory>
     requires now { list_all is_object_now declared.now ≡ true }
     requires threads { (1 ≤ threads) × (threads ≤ 64) }
-    ensures objects { IfOk result (λ r. AreMadeAs declared.now r.0.items) }
-    ensures tokens { IfOk result (λ r. AreNew r.0.items threads 0 (131072 * threads) 0 r.1.items) }
-    ensures shares { IfOk result (λ r. (o : ℕ) → share_at r.1.items o ≡ count_at declared.now o) }
+    ensures objects { IfOk result (λ r. AreMadeAs declared.now (objects_of r.items)) }
+    ensures new { IfOk result (λ r. AreNew (objects_of r.items) threads 0 (131072 * threads) 0 r.items) }
+    ensures shares { IfOk result (λ r. (o : ℕ) → share_at r.items o ≡ count_at declared.now o) }
 {
     let mut all = Vec::with_capacity(alloc, declared.len())?;
-    let mut tokens = Vec::with_capacity(alloc, declared.len())?;
     for object in declared {
-        let (made, token) = made_of(alloc, object, threads)?;
-        all.push(made)?;
-        tokens.push(token)?;
+        let access = made(alloc, object, threads)?;
+        all.push(access)?;
     }
-    Ok((all, tokens))
+    Ok(all)
 }
 
 impl Objects {
-    ghost use Rattle.cx_work.specs.Bodies.{scene_in, all_in};
+    ghost use Rattle.cx_work.specs.Bodies.{scene_in};
 
-    /// The objects of a scenario as it declares them, and for each thread a token of each object that may
+    /// The objects of a scenario as it declares them, and for each thread an access to each object that may
     /// make 131,072 changes [thread.mutex.requirements, thread.sema.cnt, thread.latch.class]. A thread's
     /// share of a latch is what its own text takes from it, as far as main has it; what is left stays with
     /// main.
@@ -209,27 +107,19 @@ impl Objects {
         requires now { IsRunNow (scene_of plan.now) }
         requires threads { (1 ≤ vec_len plan.now.threads) × (vec_len plan.now.threads ≤ 64) }
         ensures scene { IfOk result (λ r. scene_in r.0 ≡ scene_of plan.now) }
-        ensures objects { IfOk result (λ r. AreMadeAs (scene_of plan.now).objects (all_in r.0)) }
-        ensures passes { IfOk result (λ r. AreAllNew (all_in r.0) (vec_len plan.now.threads) r.1.threads.items) }
+        ensures objects { IfOk result (λ r. AreMadeAs (scene_of plan.now).objects (objects_of_all r.1.threads.items)) }
+        ensures passes { IfOk result (λ r. AreAllNew (objects_of_all r.1.threads.items) (vec_len plan.now.threads) r.1.threads.items) }
         ensures shares { IfOk result (λ r. AreShared (scene_of plan.now) r.1.threads.items) }
     {
         let threads = plan.threads.len() as u32;
-        let (all, mut main) = all_of(alloc, plan.objects.as_slice(), threads)?;
+        let mut main = all_of(alloc, plan.objects.as_slice(), threads)?;
         let mut passes = Vec::with_capacity(alloc, plan.threads.len())?;
         for splits in 0..threads - 1 {
-            let row = row_of(
-                alloc,
-                plan,
-                all.as_slice(),
-                main.as_mut_slice(),
-                threads,
-                splits,
-            )?;
+            let row = row_of(alloc, plan, main.as_mut_slice(), threads, splits)?;
             passes.push(row)?;
         }
         passes.insert(0, main)?;
         let objects = Objects {
-            all: Arc::new(alloc, all)?,
             plan: Arc::new(alloc, copy_of(alloc, plan)?)?,
         };
         Ok((objects, Passes { threads: passes }))

@@ -1,20 +1,16 @@
 //! Where a thread stands in its body, and what it has made.
-ghost use Rattle.std.specs.Prelude.{◌≡◌, ◌++◌, ◌∷◌, [], ℕ, Some, true, false, IsTrue, map, slice_get, IfOk, OnOk};
+ghost use Rattle.std.specs.Prelude.{◌≡◌, ◌++◌, ◌∷◌, [], ℕ, true, false, IsTrue, IfOk, OnOk};
 ghost use Rattle.cx_scene.specs.Scene.{scene_of};
-ghost use Rattle.cx_items.specs.Next.{offered};
-ghost use Rattle.cx_items.specs.Steps.{local_of, form_of};
 ghost use Rattle.cx_history.specs.IsRecord.{is_item};
-ghost use Rattle.cx_fronts.specs.Runs.{is_barrier};
-ghost use Rattle.cx_work.specs.Forms.{forms_next, is_fit, is_of_one};
-ghost use Rattle.cx_work.specs.Tokens.{IsToken, AreMadeAs, AreTokens};
+ghost use Rattle.cx_asks.specs.Forms.{is_of_one};
+ghost use Rattle.cx_asks.specs.Scenes.{IsAskable};
+ghost use Rattle.cx_work.specs.Accesses.{AreMadeAs, AreAccesses, HoldNothing, objects_of};
 
-use crate::act::{Act, Next, next_of};
-use crate::acting::{act_on, cannot_be};
+use crate::acting::{acted, leaves_completing, reply_in};
 use crate::gate::Gate;
-use crate::objects::RunObject;
-use crate::token::Token;
 use cx_items::{Form, Item, Local};
-use cx_names::{NoMemory, ObjectNo, ThreadNo};
+use cx_kinds::Access;
+use cx_names::{NoMemory, ThreadNo};
 use cx_scene::Plan;
 use std::alloc::Global;
 use std::sync::Wait;
@@ -22,13 +18,13 @@ use std::sync::Wait;
 // No task has more forms.
 const FORMS: usize = 3;
 
-/// Where a thread stands in its body, its tokens, and the list of the items that it has made.
+/// Where a thread stands in its body, its accesses, and the list of the items that it has made.
 #[derive(Drop)]
 pub struct Standing {
     /// The thread's number.
     pub thread: ThreadNo,
     /// What the thread has of each object, by its number.
-    pub tokens: Vec<Token>,
+    pub accesses: Vec<Access>,
     /// What the thread has made so far, in its order.
     pub list: Vec<Item>,
     pub(crate) local: Local,
@@ -38,25 +34,26 @@ pub struct Standing {
 }
 
 impl Standing {
-    ghost use Rattle.cx_work.specs.Steps.{StepsOn, is_made_alone, IsNext, IsAt};
+    ghost use Rattle.cx_work.specs.Acting.{LeavesIt};
+    ghost use Rattle.cx_work.specs.Steps.{StepsOn, is_made_alone, forms_at, IsNext, IsAt};
 
-    /// Thread `thread` of the scenario at the start of its body [thread.thread.constr], with these tokens,
+    /// Thread `thread` of the scenario at the start of its body [thread.thread.constr], with these accesses,
     /// and with a list for `room` items: `room_for` tells how many to have. `NoMemory` where memory doesn't
     /// suffice.
     pub fn start(
         alloc: Global,
         plan: &Plan,
         thread: ThreadNo,
-        tokens: Vec<Token>,
+        accesses: Vec<Access>,
         room: usize,
     ) -> Result<Standing, NoMemory>
         ensures at { IfOk result (λ r. IsAt (scene_of plan.now) r) }
         ensures list { IfOk result (λ r. r.list.items ≡ []) }
-        ensures tokens { IfOk result (λ r. (r.thread ≡ thread) × (r.tokens ≡ tokens)) }
+        ensures accesses { IfOk result (λ r. (r.thread ≡ thread) × (r.accesses ≡ accesses)) }
     {
         Ok(Standing {
             thread,
-            tokens,
+            accesses,
             list: Vec::with_capacity(alloc, room)?,
             local: Local::start(alloc, plan, thread)?,
             forms: Vec::with_capacity(alloc, FORMS)?,
@@ -65,81 +62,69 @@ impl Standing {
         })
     }
 
-    /// What the thread's next item is to be; none where its body has ended. `plan` is the scenario in whose
-    /// body the thread stands. After `NoMemory` the thread makes no further item.
-    pub fn next(&mut self, plan: &Plan) -> Result<Option<Next>, NoMemory>
-        ensures same { (self.new.thread ≡ self.old.thread) × (self.new.tokens ≡ self.old.tokens) × (self.new.list ≡ self.old.list) × (self.new.local ≡ self.old.local) }
-        ensures next { IfOk result (λ n. IsNext (scene_of plan.now) self.old.thread.0 (local_of (scene_of plan.now) self.old.thread.0 self.old.local) n) }
+    /// Finds what the thread's next item may be, as `forms` then tells, and whether there is one: none where
+    /// its body has ended. `plan` is the scenario in whose body the thread stands. After `NoMemory` the thread
+    /// makes no further item.
+    pub fn next(&mut self, plan: &Plan) -> Result<bool, NoMemory>
+        ensures same { (self.new.thread ≡ self.old.thread) × (self.new.accesses ≡ self.old.accesses) × (self.new.list ≡ self.old.list) × (self.new.local ≡ self.old.local) }
+        ensures next { IfOk result (λ there. IsNext (scene_of plan.now) self.old.thread.0 self.old.local there self.new.forms.items) }
     {
         if self.local.is_ended(plan, self.thread) {
-            return Ok(None);
+            return Ok(false);
         }
         self.local.offered(plan, self.thread, &mut self.forms)?;
-        match next_of(self.forms.as_slice()) {
-            Some(next) => Ok(Some(next)),
-            None => Err(cannot_be()),
-        }
+        Ok(true)
+    }
+
+    /// The forms of the thread's next item, as `next` found them last.
+    pub fn forms(&self) -> &[Form]
+        ensures { result.now ≡ self.now.forms.items }
+    {
+        self.forms.as_slice()
     }
 
     /// Makes the item that is next by the object's own call, puts it into the list, and gives it. May wait
-    /// for other threads where that call may [thread.mutex.requirements, thread.sema.cnt,
-    /// thread.latch.class].
+    /// for other threads where that call may.
     ///
-    /// `objects` are those of `plan`, of which the thread has its tokens, and `next` is what `next` gave
-    /// where the thread stands. `NoMemory` where memory doesn't suffice, and for a start or a join, which
+    /// `plan` is the scenario to whose objects the thread has its accesses, and the forms are those of what is
+    /// next where the thread stands. `NoMemory` where memory doesn't suffice, and for a start or a join, which
     /// aren't made here. The thread makes no further item then.
-    pub fn make<R: Wait>(
-        &mut self,
-        rt: &R,
-        plan: &Plan,
-        objects: &[RunObject],
-        next: Next,
-    ) -> Result<Item, NoMemory>
-        requires tokens { AreTokens objects.now self.old.thread.0 self.old.tokens.items }
-        requires made { AreMadeAs (scene_of plan.now).objects objects.now }
+    pub fn make<R: Wait>(&mut self, rt: &R, plan: &Plan) -> Result<Item, NoMemory>
+        requires accesses { AreAccesses (objects_of self.old.accesses.items) self.old.thread.0 self.old.accesses.items }
+        requires made { AreMadeAs (scene_of plan.now).objects (objects_of self.old.accesses.items) }
+        requires asks { IsAskable (scene_of plan.now) }
         requires at { IsAt (scene_of plan.now) self.old }
-        requires next { IsNext (scene_of plan.now) self.old.thread.0 (local_of (scene_of plan.now) self.old.thread.0 self.old.local) (Some next) }
+        requires next { self.old.forms.items ≡ forms_at (scene_of plan.now) self.old.thread.0 self.old.local }
         ensures thread { self.new.thread ≡ self.old.thread }
-        ensures tokens { AreTokens objects.now self.new.thread.0 self.new.tokens.items }
+        ensures accesses { AreAccesses (objects_of self.old.accesses.items) self.new.thread.0 self.new.accesses.items }
         ensures list { IfOk result (λ x. self.new.list.items ≡ self.old.list.items ++ x ∷ []) }
-        ensures steps { IfOk result (λ x. StepsOn objects.now self.old.tokens.items self.new.tokens.items x) }
+        ensures steps { IfOk result (λ x. StepsOn self.old.accesses.items self.new.accesses.items x) }
         ensures alone { IfOk result (λ x. is_made_alone x ≡ true) }
         ensures at { OnOk result (IsAt (scene_of plan.now) self.new) }
     {
-        let item = self.made(rt, plan, objects, next)?;
-        self.take(plan, item)?;
+        let item = self.made(rt, plan)?;
+        let completing = leaves_completing(self.accesses.as_slice(), &item);
+        self.put(plan, completing, item)?;
         Ok(item)
     }
 
     /// Makes the item that is next, which isn't in the list yet.
-    fn made<R: Wait>(
-        &mut self,
-        rt: &R,
-        plan: &Plan,
-        objects: &[RunObject],
-        next: Next,
-    ) -> Result<Item, NoMemory>
-        requires tokens { AreTokens objects.now self.old.thread.0 self.old.tokens.items }
-        requires made { AreMadeAs (scene_of plan.now).objects objects.now }
-        requires fit { is_fit next ≡ true }
+    fn made<R: Wait>(&mut self, rt: &R, plan: &Plan) -> Result<Item, NoMemory>
+        requires accesses { AreAccesses (objects_of self.old.accesses.items) self.old.thread.0 self.old.accesses.items }
+        requires made { AreMadeAs (scene_of plan.now).objects (objects_of self.old.accesses.items) }
+        requires asks { IsAskable (scene_of plan.now) }
+        requires at { IsAt (scene_of plan.now) self.old }
+        requires next { self.old.forms.items ≡ forms_at (scene_of plan.now) self.old.thread.0 self.old.local }
         ensures same { (self.new.thread ≡ self.old.thread) × (self.new.list ≡ self.old.list) × (self.new.local ≡ self.old.local) }
-        ensures tokens { AreTokens objects.now self.new.thread.0 self.new.tokens.items }
-        ensures steps { IfOk result (λ x. StepsOn objects.now self.old.tokens.items self.new.tokens.items x) }
+        ensures accesses { AreAccesses (objects_of self.old.accesses.items) self.new.thread.0 self.new.accesses.items }
+        ensures steps { IfOk result (λ x. StepsOn self.old.accesses.items self.new.accesses.items x) }
         ensures alone { IfOk result (λ x. is_made_alone x ≡ true) }
-        ensures fits { IfOk result (λ x. is_of_one (scene_of plan.now) (forms_next next) x ≡ true) }
+        ensures fits { IfOk result (λ x. is_of_one (scene_of plan.now) (forms_at (scene_of plan.now) self.old.thread.0 self.old.local) x ≡ true) }
         ensures formed { IfOk result (λ x. IsTrue (is_item (scene_of plan.now) self.old.thread.0 x)) }
     {
-        match next {
-            Next::Acts(o, act) => act_on(
-                rt,
-                objects,
-                self.tokens.as_mut_slice(),
-                self.thread,
-                o,
-                act,
-            ),
-            Next::Replies(reply) => Ok(Item::Said(reply)),
-            _ => Err(cannot_be()),
+        match reply_in(self.forms.as_slice()) {
+            Some(reply) => Ok(Item::Said(reply)),
+            None => acted(rt, self.forms.as_slice(), &mut self.accesses),
         }
     }
 
@@ -147,18 +132,31 @@ impl Standing {
     /// [thread.thread.constr, thread.thread.member].
     ///
     /// `item` is of a form that the text offers where the thread stands, and one that the thread may have in
-    /// a record; `plan` is the scenario, which has no barriers. After `NoMemory` the thread makes no further
-    /// item.
+    /// a record, after which no completion is due; `plan` is the scenario. After `NoMemory` the thread makes no
+    /// further item.
     pub fn take(&mut self, plan: &Plan, item: Item) -> Result<(), NoMemory>
         requires at { IsAt (scene_of plan.now) self.old }
-        requires fits { is_of_one (scene_of plan.now) (map form_of (offered (scene_of plan.now) self.old.thread.0 (local_of (scene_of plan.now) self.old.thread.0 self.old.local))) item ≡ true }
+        requires fits { is_of_one (scene_of plan.now) (forms_at (scene_of plan.now) self.old.thread.0 self.old.local) item ≡ true }
         requires formed { IsTrue (is_item (scene_of plan.now) self.old.thread.0 item) }
-        requires barriers { (o : ℕ) → is_barrier (slice_get (scene_of plan.now).objects o) ≡ false }
-        ensures same { (self.new.thread ≡ self.old.thread) × (self.new.tokens ≡ self.old.tokens) }
+        requires undue { LeavesIt (scene_of plan.now) self.old.accesses.items item false }
+        ensures same { (self.new.thread ≡ self.old.thread) × (self.new.accesses ≡ self.old.accesses) }
         ensures list { OnOk result (self.new.list.items ≡ self.old.list.items ++ item ∷ []) }
         ensures at { OnOk result (IsAt (scene_of plan.now) self.new) }
     {
-        let moved = self.local.after_item(plan, self.thread, false, &item)?;
+        self.put(plan, false, item)
+    }
+
+    /// Puts an item into the list, after which a completion is due or not.
+    fn put(&mut self, plan: &Plan, completing: bool, item: Item) -> Result<(), NoMemory>
+        requires at { IsAt (scene_of plan.now) self.old }
+        requires fits { is_of_one (scene_of plan.now) (forms_at (scene_of plan.now) self.old.thread.0 self.old.local) item ≡ true }
+        requires formed { IsTrue (is_item (scene_of plan.now) self.old.thread.0 item) }
+        requires due { LeavesIt (scene_of plan.now) self.old.accesses.items item completing }
+        ensures same { (self.new.thread ≡ self.old.thread) × (self.new.accesses ≡ self.old.accesses) }
+        ensures list { OnOk result (self.new.list.items ≡ self.old.list.items ++ item ∷ []) }
+        ensures at { OnOk result (IsAt (scene_of plan.now) self.new) }
+    {
+        let moved = self.local.after_item(plan, self.thread, completing, &item)?;
         let _ = moved;
         self.list.push(item)?;
         Ok(())
@@ -167,7 +165,7 @@ impl Standing {
     /// Calls the gate where the next item is the first of a call of the text. Waits as long as the gate
     /// does.
     pub fn enter<G: Gate>(&mut self, plan: &Plan, gate: &G)
-        ensures { (self.new.thread ≡ self.old.thread) × (self.new.tokens ≡ self.old.tokens) × (self.new.list ≡ self.old.list) × (self.new.local ≡ self.old.local) }
+        ensures { (self.new.thread ≡ self.old.thread) × (self.new.accesses ≡ self.old.accesses) × (self.new.list ≡ self.old.list) × (self.new.local ≡ self.old.local) }
     {
         if !self.is_in_call && (self.replies as usize) < plan.body(self.thread).len() {
             self.is_in_call = true;
@@ -178,7 +176,7 @@ impl Standing {
     /// Calls the gate where `item`, the last one made, is the reply of a call. Waits as long as the gate
     /// does.
     pub fn leave<G: Gate>(&mut self, gate: &G, item: &Item)
-        ensures { (self.new.thread ≡ self.old.thread) × (self.new.tokens ≡ self.old.tokens) × (self.new.list ≡ self.old.list) × (self.new.local ≡ self.old.local) }
+        ensures { (self.new.thread ≡ self.old.thread) × (self.new.accesses ≡ self.old.accesses) × (self.new.list ≡ self.old.list) × (self.new.local ≡ self.old.local) }
     {
         if let Item::Said(_) = item {
             gate.after(self.thread, self.replies);
@@ -187,33 +185,17 @@ impl Standing {
         }
     }
 
-    /// Unlocks what the thread holds of these objects, without an item, as far as its tokens may still make
+    /// Gives back what the thread holds of its objects, without an item, as far as its passes may still make
     /// changes [thread.mutex.requirements]. For a thread that makes no further item.
-    pub fn give_up<R: Wait>(&mut self, rt: &R, objects: &[RunObject])
-        requires { AreTokens objects.now self.old.thread.0 self.old.tokens.items }
+    pub fn give_up<R: Wait>(&mut self, rt: &R)
+        requires { AreAccesses (objects_of self.old.accesses.items) self.old.thread.0 self.old.accesses.items }
         ensures thread { self.new.thread ≡ self.old.thread }
         ensures list { self.new.list ≡ self.old.list }
-        ensures tokens { AreTokens objects.now self.new.thread.0 self.new.tokens.items }
+        ensures accesses { AreAccesses (objects_of self.old.accesses.items) self.old.thread.0 self.new.accesses.items }
+        ensures free { HoldNothing self.new.accesses.items }
     {
-        let by = self.thread;
-        for i in 0..objects.len() {
-            free(rt, &objects[i], &mut self.tokens[i], by);
-        }
-    }
-}
-
-/// Unlocks what thread `by` holds of the object, as far as it can.
-fn free<R: Wait>(rt: &R, object: &RunObject, token: &mut Token, by: ThreadNo)
-    requires { IsToken object.now by.0 token.old }
-    ensures { IsToken object.now by.0 token.new }
-{
-    for _ in rt.forever() {
-        if !token.holds() {
-            return;
-        }
-        let item = token.act(rt, object, by, ObjectNo(0), Act::Unlock);
-        if item.is_err() {
-            return;
+        for i in 0..self.accesses.len() {
+            self.accesses[i].give_up(rt);
         }
     }
 }

@@ -4,16 +4,17 @@ ghost use Rattle.cx_scene.specs.Scene.{scene_of, body_of};
 ghost use Rattle.cx_items.specs.Next.{is_ended};
 ghost use Rattle.cx_items.specs.Steps.{local_of};
 ghost use Rattle.cx_fronts.specs.Counts.{change_count};
+ghost use Rattle.cx_asks.specs.Scenes.{IsAskable};
 ghost use Rattle.cx_work.specs.Bodies.{IsBody, IsUnderway};
 ghost use Rattle.cx_work.specs.Steps.{IsAt};
-ghost use Rattle.cx_work.specs.Tokens.{AreMadeAs, AreTokens};
+ghost use Rattle.cx_work.specs.Accesses.{AreMadeAs, AreAccesses, HoldNothing, objects_of};
 
 use crate::gate::Gate;
-use crate::objects::{Objects, RunObject};
+use crate::objects::Objects;
 use crate::standing::Standing;
-use crate::token::Token;
 use cx_io::Job;
 use cx_items::Item;
+use cx_kinds::Access;
 use cx_names::{NoMemory, ThreadNo};
 use cx_scene::Plan;
 use std::alloc::Global;
@@ -25,9 +26,9 @@ const ITEMS_OF_A_CALL: usize = 8;
 /// A thread's body as a job [thread.thread.class]. `new` makes one that is fit to run.
 #[derive(Drop)]
 pub struct Work<G: Gate + Send + Sync> {
-    /// The thread at the start of its body, with its tokens.
+    /// The thread at the start of its body, with its accesses.
     pub standing: Standing,
-    /// The objects, and the scenario.
+    /// The scenario of the objects.
     pub objects: Objects,
     /// What is called round each call of the text.
     pub gate: Arc<G, Global>,
@@ -41,7 +42,7 @@ pub struct Ended {
     /// The items of the whole body in their order, empty where memory ran out.
     pub list: Vec<Item>,
     /// What the thread has of each object, by its number.
-    pub tokens: Vec<Token>,
+    pub accesses: Vec<Access>,
     /// How many changes the list tells of, so 0 where memory ran out.
     pub made: u64,
     /// Whether memory ran out before the body's end.
@@ -84,33 +85,32 @@ fn change_count(list: &[Item]) -> u64
 fn make_all<R: Wait, G: Gate>(
     rt: &R,
     plan: &Plan,
-    objects: &[RunObject],
     standing: &mut Standing,
     gate: &G,
 ) -> Result<(), NoMemory>
-    requires made { AreMadeAs (scene_of plan.now).objects objects.now }
-    requires under_way { IsUnderway (scene_of plan.now) objects.now standing.old.tokens.items standing.old }
+    requires asks { IsAskable (scene_of plan.now) }
+    requires made { AreMadeAs (scene_of plan.now).objects (objects_of standing.old.accesses.items) }
+    requires under_way { IsUnderway (scene_of plan.now) standing.old.accesses.items standing.old }
     ensures thread { standing.new.thread ≡ standing.old.thread }
-    ensures tokens { AreTokens objects.now standing.new.thread.0 standing.new.tokens.items }
-    ensures under_way { OnOk result (IsUnderway (scene_of plan.now) objects.now standing.old.tokens.items standing.new) }
+    ensures accesses { AreAccesses (objects_of standing.old.accesses.items) standing.new.thread.0 standing.new.accesses.items }
+    ensures under_way { OnOk result (IsUnderway (scene_of plan.now) standing.old.accesses.items standing.new) }
     ensures ended { OnOk result (is_ended (local_of (scene_of plan.now) standing.new.thread.0 standing.new.local) ≡ true) }
 {
     for _ in rt.forever() {
         standing.enter(plan, gate);
-        let Some(next) = standing.next(plan)? else {
+        if !standing.next(plan)? {
             return Ok(());
-        };
-        let item = standing.make(rt, plan, objects, next)?;
+        }
+        let item = standing.make(rt, plan)?;
         standing.leave(gate, &item);
     }
     unreachable!()
 }
 
 impl<G: Gate + Send + Sync> Work<G> {
-    ghost use Rattle.cx_work.specs.Bodies.{Needs, scene_in, all_in};
+    ghost use Rattle.cx_work.specs.Bodies.{Needs, scene_in};
 
-    /// The body of thread `thread` of the scenario, with that thread's tokens of these objects, one for
-    /// each. `gate` is called round each call of its text.
+    /// The body of thread `thread` of the scenario, with that thread's accesses to these objects. `gate` is called round each call of its text.
     ///
     /// `NoMemory` where memory doesn't suffice. The list's room is taken here; a call that begins again, a
     /// level of a recursive mutex and the place in the text take more as the body runs.
@@ -118,16 +118,17 @@ impl<G: Gate + Send + Sync> Work<G> {
         alloc: Global,
         objects: Objects,
         thread: ThreadNo,
-        tokens: Vec<Token>,
+        accesses: Vec<Access>,
         gate: Arc<G, Global>,
     ) -> Result<Work<G>, NoMemory>
-        requires made { AreMadeAs (scene_in objects).objects (all_in objects) }
-        requires tokens { AreTokens (all_in objects) thread.0 tokens.items }
+        requires asks { IsAskable (scene_in objects) }
+        requires made { AreMadeAs (scene_in objects).objects (objects_of accesses.items) }
+        requires accesses { AreAccesses (objects_of accesses.items) thread.0 accesses.items }
         ensures needs { IfOk result (λ w. Needs w) }
-        ensures parts { IfOk result (λ w. (w.objects ≡ objects) × (w.standing.thread ≡ thread) × (w.standing.tokens ≡ tokens)) }
+        ensures parts { IfOk result (λ w. (w.objects ≡ objects) × (w.standing.thread ≡ thread) × (w.standing.accesses ≡ accesses)) }
     {
         let room = room_for(&objects.plan, thread)?;
-        let standing = Standing::start(alloc, &objects.plan, thread, tokens, room)?;
+        let standing = Standing::start(alloc, &objects.plan, thread, accesses, room)?;
         Ok(Work {
             standing,
             objects,
@@ -137,27 +138,23 @@ impl<G: Gate + Send + Sync> Work<G> {
 }
 
 /// Makes the calls of the body and the acts of its end.
-fn make_body<R: Wait, G: Gate>(
-    rt: &R,
-    plan: &Plan,
-    objects: &[RunObject],
-    mut standing: Standing,
-    gate: &G,
-) -> Ended
-    requires made { AreMadeAs (scene_of plan.now).objects objects.now }
-    requires tokens { AreTokens objects.now standing.thread.0 standing.tokens.items }
+fn make_body<R: Wait, G: Gate>(rt: &R, plan: &Plan, mut standing: Standing, gate: &G) -> Ended
+    requires asks { IsAskable (scene_of plan.now) }
+    requires made { AreMadeAs (scene_of plan.now).objects (objects_of standing.accesses.items) }
+    requires accesses { AreAccesses (objects_of standing.accesses.items) standing.thread.0 standing.accesses.items }
     requires at { IsAt (scene_of plan.now) standing }
     requires fresh { standing.list.items ≡ [] }
     ensures thread { result.thread ≡ standing.thread }
-    ensures tokens { AreTokens objects.now result.thread.0 result.tokens.items }
+    ensures accesses { AreAccesses (objects_of standing.accesses.items) result.thread.0 result.accesses.items }
     ensures made { result.made ≡ change_count result.list.items }
     ensures dropped { result.failed ≡ true → result.list.items ≡ [] }
-    ensures body { result.failed ≡ false → IsBody (scene_of plan.now) objects.now result.thread.0 standing.tokens.items result.list.items result.tokens.items }
+    ensures free { result.failed ≡ true → HoldNothing result.accesses.items }
+    ensures body { result.failed ≡ false → IsBody (scene_of plan.now) result.thread.0 standing.accesses.items result.list.items result.accesses.items }
 {
-    match make_all(rt, plan, objects, &mut standing, gate) {
+    match make_all(rt, plan, &mut standing, gate) {
         Ok(()) => end(standing, false),
         Err(_) => {
-            standing.give_up(rt, objects);
+            standing.give_up(rt);
             end(standing, true)
         }
     }
@@ -182,7 +179,7 @@ impl<G: Gate + Send + Sync> Job for Work<G> {
             objects,
             gate,
         } = self;
-        make_body(rt, &objects.plan, objects.all.as_slice(), standing, &*gate)
+        make_body(rt, &objects.plan, standing, &*gate)
     }
 
     fn steps(out: &Ended) -> u64 {
@@ -193,7 +190,7 @@ impl<G: Gate + Send + Sync> Job for Work<G> {
 /// What a body gives that stands here. Its list is dropped where it failed.
 fn end(standing: Standing, failed: bool) -> Ended
     ensures thread { result.thread ≡ standing.thread }
-    ensures tokens { result.tokens ≡ standing.tokens }
+    ensures accesses { result.accesses ≡ standing.accesses }
     ensures list { failed ≡ false → result.list ≡ standing.list }
     ensures dropped { failed ≡ true → result.list.items ≡ [] }
     ensures made { result.made ≡ change_count result.list.items }
@@ -201,7 +198,7 @@ fn end(standing: Standing, failed: bool) -> Ended
 {
     let Standing {
         thread,
-        tokens,
+        accesses,
         mut list,
         ..
     } = standing;
@@ -212,7 +209,7 @@ fn end(standing: Standing, failed: bool) -> Ended
     Ended {
         thread,
         list,
-        tokens,
+        accesses,
         made,
         failed,
     }

@@ -1,10 +1,64 @@
-use Rattle.std.proofs.Common.{ℕ, List, sym, subst}
+use Rattle.std.proofs.Common.{ℕ, List, sym, ap, ◌∙◌, subst}
 use Rattle.cx_items.specs.declared.item.Item.{Item}
+use Rattle.cx_history.specs.Views.{recorded_of}
 use Rattle.cx_io.specs.Spawning.{Raised, RaisedAtLeast}
-use Rattle.cx_run.specs.Runs.{tally, KeepsTally, starts_in, refusals_in, steps_in}
-use Rattle.cx_run.proofs.Righting.{from_ok}
+use Rattle.cx_work.specs.declared.objects.Objects.{Objects}
+use Rattle.cx_work.specs.Bodies.{scene_in}
+use Rattle.cx_work.specs.RunNow.{objects_of_all}
+use Rattle.cx_run.specs.Runs.{tally, objects_at, KeepsTally, starts_in, refusals_in, steps_in}
+use Rattle.cx_run.proofs.Righting.{from_ok, right_as}
+use Rattle.cx_run.proofs.Stepped.{own_run, own_kept, kept_objects}
 use Rattle.cx_run.proofs.Tallying.{tallied_first}
 use Rattle.cx_run.proofs.scenario.run_on.Goals as goal
+
+pub complete-requires-clause-run : goal.complete-requires-clause-run
+complete-requires-clause-run g c κs within = own_run c.in_ok-run.run' c.in_ok-run.ensures.run
+
+pub give_up-requires-clause-kept : goal.give_up-requires-clause-kept
+give_up-requires-clause-kept g c κs within = own_kept c.complete.new.self c.complete.ensures.kept
+
+pub into_record-requires-clause-run : goal.into_record-requires-clause-run
+into_record-requires-clause-run g c κs within = own_run c.complete.new.self (from_ok c.complete.result c.is_err.result c.if-is_err.false c.is_err.ensures.value c.complete.ensures.run)
+
+pub returns-clause-legal : goal.returns-clause-legal
+returns-clause-legal g c =
+    let new = c.complete.new.self in
+    let before = c.in_ok-run.run' in
+    let run = from_ok c.complete.result c.is_err.result c.if-is_err.false c.is_err.ensures.value c.complete.ensures.run in
+    let is_scene = ap (λ (o : Objects). scene_in o) c.complete.ensures.objects ∙ c.in_ok-run.ensures.objects in
+    let is_objects = kept_objects new run.kept ∙ kept_objects before c.in_ok-run.ensures.run.kept in
+    let right = right_as (scene_in c.args.objects.now) (scene_in new.objects) (objects_of_all c.args.passes.threads.items) (objects_at new) (recorded_of c.in_ok-record.record) c.in_ok-record.accesses.items is_scene is_objects c.in_ok-record.ensures.right in
+    right.legal
+
+pub returns-clause-follows : goal.returns-clause-follows
+returns-clause-follows g c =
+    let new = c.complete.new.self in
+    let before = c.in_ok-run.run' in
+    let run = from_ok c.complete.result c.is_err.result c.if-is_err.false c.is_err.ensures.value c.complete.ensures.run in
+    let is_scene = ap (λ (o : Objects). scene_in o) c.complete.ensures.objects ∙ c.in_ok-run.ensures.objects in
+    let is_objects = kept_objects new run.kept ∙ kept_objects before c.in_ok-run.ensures.run.kept in
+    let right = right_as (scene_in c.args.objects.now) (scene_in new.objects) (objects_of_all c.args.passes.threads.items) (objects_at new) (recorded_of c.in_ok-record.record) c.in_ok-record.accesses.items is_scene is_objects c.in_ok-record.ensures.right in
+    right.follows
+
+pub returns-clause-formed : goal.returns-clause-formed
+returns-clause-formed g c =
+    let new = c.complete.new.self in
+    let before = c.in_ok-run.run' in
+    let run = from_ok c.complete.result c.is_err.result c.if-is_err.false c.is_err.ensures.value c.complete.ensures.run in
+    let is_scene = ap (λ (o : Objects). scene_in o) c.complete.ensures.objects ∙ c.in_ok-run.ensures.objects in
+    let is_objects = kept_objects new run.kept ∙ kept_objects before c.in_ok-run.ensures.run.kept in
+    let right = right_as (scene_in c.args.objects.now) (scene_in new.objects) (objects_of_all c.args.passes.threads.items) (objects_at new) (recorded_of c.in_ok-record.record) c.in_ok-record.accesses.items is_scene is_objects c.in_ok-record.ensures.right in
+    right.formed
+
+pub returns-clause-fronts : goal.returns-clause-fronts
+returns-clause-fronts g c =
+    let new = c.complete.new.self in
+    let before = c.in_ok-run.run' in
+    let run = from_ok c.complete.result c.is_err.result c.if-is_err.false c.is_err.ensures.value c.complete.ensures.run in
+    let is_scene = ap (λ (o : Objects). scene_in o) c.complete.ensures.objects ∙ c.in_ok-run.ensures.objects in
+    let is_objects = kept_objects new run.kept ∙ kept_objects before c.in_ok-run.ensures.run.kept in
+    let right = right_as (scene_in c.args.objects.now) (scene_in new.objects) (objects_of_all c.args.passes.threads.items) (objects_at new) (recorded_of c.in_ok-record.record) c.in_ok-record.accesses.items is_scene is_objects c.in_ok-record.ensures.right in
+    right.fronts
 
 pub returns-clause-started : goal.returns-clause-started
 returns-clause-started g c =

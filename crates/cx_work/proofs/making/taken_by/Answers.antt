@@ -1,5 +1,5 @@
 use Rattle.std.proofs.Common.{ap, ◌∙◌}
-use Rattle.cx_work.specs.RunNow.{takes_of}
+use Rattle.cx_asks.specs.Scenes.{takes_of}
 use Rattle.cx_work.proofs.Shares.{one_more_taken}
 use Rattle.cx_work.proofs.making.taken_by.Goals as goal
 

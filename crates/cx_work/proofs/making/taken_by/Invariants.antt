@@ -1,5 +1,5 @@
 use Rattle.std.proofs.Common.{◌≡◌, min, take}
-use Rattle.cx_work.specs.RunNow.{takings}
+use Rattle.cx_asks.specs.Scenes.{takings}
 use Rattle.cx_work.proofs.making.taken_by.Given as goal
 
 abbrev pub invariant-loop-i : goal.invariant-loop-i

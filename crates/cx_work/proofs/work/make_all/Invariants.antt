@@ -7,4 +7,4 @@ abbrev pub invariant-loop : goal.invariant-loop
 invariant-loop g l =
     (goal.iterator-loop g).can_next l.iterator' × (goal.iterator-loop g).is_finite l.iterator'
     × (l.standing.thread ≡ l.initial.standing.thread)
-    × IsUnderway (scene_of l.plan) l.objects l.initial.standing.tokens.items l.standing
+    × IsUnderway (scene_of l.plan) l.initial.standing.accesses.items l.standing

@@ -1,11 +1,11 @@
 use Rattle.std.proofs.Common.{◌≡◌, ℕ, ◌<◌, true, length, slice_get, Some}
 use Rattle.cx_run.specs.declared.place.Place.{Place}
-use Rattle.cx_run.specs.Runs.{tally, IsRun, KeepsTally, has_come}
+use Rattle.cx_run.specs.Runs.{tally, objects_at, IsRun, KeepsTally, has_come}
 use Rattle.cx_run.proofs.run.Run.gather.Given as goal
 
 abbrev pub invariant-loop-i : goal.invariant-loop-i
 invariant-loop-i g l = record {
-  run : IsRun l.self;
+  run : IsRun (objects_at l.initial.self) l.self;
   objects : l.self.objects ≡ l.initial.self.objects;
   list : l.self.main.list ≡ l.initial.self.main.list;
   local : l.self.main.local ≡ l.initial.self.main.local;

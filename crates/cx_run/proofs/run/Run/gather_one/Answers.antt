@@ -1,21 +1,25 @@
 use Rattle.std.proofs.Common.{◌≡◌, suc, slice_set, refl, ap, ◌∙◌}
 use Rattle.std.specs.Global.{Vec}
 use Rattle.cx_io.proofs.Counts.{raised_none}
-use Rattle.cx_work.specs.declared.objects.RunObject.{RunObject}
-use Rattle.cx_work.specs.Bodies.{scene_in, all_in}
+use Rattle.cx_work.specs.Bodies.{scene_in}
 use Rattle.cx_items.specs.declared.item.Item.{Item}
 use Rattle.cx_fronts.specs.Counts.{change_count}
 use Rattle.cx_run.specs.declared.place.Place.{Place}
 use Rattle.cx_run.specs.declared.place.Place.TheVariants as places
-use Rattle.cx_run.specs.Runs.{tally}
-use Rattle.cx_run.proofs.Parts.{vec_is, takes_as, place_was, waiting_tokens, left_kept, set_kept, runs_here, off_job, idle_run, late_run, later_tally, same_tally, same_kept, same_run, set_twice, set_back, set_same}
+use Rattle.cx_run.specs.Runs.{tally, objects_at}
+use Rattle.cx_run.proofs.Parts.{vec_is, takes_as, place_was, waiting_accesses, left_kept, set_kept, runs_here, off_job, idle_run, late_run, later_tally, same_tally, same_kept, same_run, set_twice, set_back, set_same}
+use Rattle.cx_run.proofs.Stepped.{own_as, others_as}
 use Rattle.cx_run.proofs.run.Run.gather_one.Goals as goal
+
+pub take_all_in-requires-clause-accesses : goal.take_all_in-requires-clause-accesses
+take_all_in-requires-clause-accesses g c = (0, own_as (objects_at c.args.self.now) c.as_mut_slice.result.now c.args.self.now.main.accesses.items 0 c.as_mut_slice.ensures.value c.requires.run.kept.accesses)
 
 pub take_all_in-requires-clause-others : goal.take_all_in-requires-clause-others
 take_all_in-requires-clause-others g c =
     let r = c.args.self.now in
     let w = c.in-Waiting.work in
-    waiting_tokens r c.args.i w c.as_slice-objects.result.now c.requires.run (place_was r.others.items c.args.i c.index_mut.result.now c.replace.result (places.Waiting w) c.requires.there c.index_mut.ensures.value c.replace.ensures.value c.in-Waiting.is) (c.as_slice-objects.ensures.value ∙ ap (λ (v : Vec RunObject). v.items) c.deref.ensures)
+    let at_p = place_was r.others.items c.args.i c.index_mut.result.now c.replace.result (places.Waiting w) c.requires.there c.index_mut.ensures.value c.replace.ensures.value c.in-Waiting.is in
+    (suc c.args.i, others_as (objects_at r) c.as_mut_slice.result.now r.main.accesses.items w.standing.accesses.items w.standing.accesses.items 0 (suc c.args.i) c.as_mut_slice.ensures.value refl c.requires.run.kept.accesses (waiting_accesses r c.args.i w c.requires.run at_p))
 
 pub await_end-requires-clause-kept : goal.await_end-requires-clause-kept
 await_end-requires-clause-kept g c κs within = left_kept c.args.self.now _ c.args.i c.replace.new.dest c.requires.run.kept c.replace.ensures.after refl refl refl refl
@@ -24,7 +28,7 @@ pub await_end-requires-clause-job : goal.await_end-requires-clause-job
 await_end-requires-clause-job g c κs within =
     let r = c.args.self.now in
     let t = c.in-Running.thread in
-    off_job (scene_in r.objects) (all_in r.objects) (suc c.args.i) (c.requires.run.goes.first (suc c.args.i)) t (runs_here r c.args.i t c.requires.run (place_was r.others.items c.args.i c.index_mut.result.now c.replace.result (places.Running t) c.requires.there c.index_mut.ensures.value c.replace.ensures.value c.in-Running.is))
+    off_job (scene_in r.objects) (objects_at c.args.self.now) (suc c.args.i) (c.requires.run.goes.first (suc c.args.i)) t (runs_here r c.args.i t c.requires.run (place_was r.others.items c.args.i c.index_mut.result.now c.replace.result (places.Running t) c.requires.there c.index_mut.ensures.value c.replace.ensures.value c.in-Running.is))
 
 pub returns-in-Waiting-clause-run : goal.returns-in-Waiting-clause-run
 returns-in-Waiting-clause-run g c =
@@ -32,8 +36,8 @@ returns-in-Waiting-clause-run g c =
     let w = c.in-Waiting.work in
     let at_p = place_was r.others.items c.args.i c.index_mut.result.now c.replace.result (places.Waiting w) c.requires.there c.index_mut.ensures.value c.replace.ensures.value c.in-Waiting.is in
     let set_ = ap (λ (z : Place g.row.G.Denot). slice_set r.others.items c.args.i z) c.replace.ensures.after in
-    let takes = takes_as _ (all_in r.objects) w.standing.tokens.items _ r.main.tokens.items c.take_all_in.new.tokens (c.as_slice-objects.ensures.value ∙ ap (λ (v : Vec RunObject). v.items) c.deref.ensures) c.as_mut_slice.ensures.value c.take_all_in.ensures in
-    idle_run r _ c.args.i w c.take_all_in.new.tokens c.requires.run at_p takes (vec_is r.main.tokens c.take_all_in.new.tokens takes.count) refl refl refl refl set_
+    let takes = takes_as w.standing.accesses.items _ r.main.accesses.items c.take_all_in.new.accesses c.as_mut_slice.ensures.value c.take_all_in.ensures in
+    idle_run r _ c.args.i w c.take_all_in.new.accesses c.requires.run at_p takes (vec_is r.main.accesses c.take_all_in.new.accesses takes.count) refl refl refl refl set_
 
 pub returns-in-Waiting-clause-kept : goal.returns-in-Waiting-clause-kept
 returns-in-Waiting-clause-kept g c = (returns-in-Waiting-clause-run g c).kept

@@ -7,43 +7,43 @@ use Rattle.cx_items.specs.declared.item.Control.TheVariants as controls
 use Rattle.cx_items.specs.declared.item.Item.{Item}
 use Rattle.cx_items.specs.declared.item.Item.TheVariants as items
 use Rattle.cx_history.specs.IsRecord.{can_start}
-use Rattle.cx_fronts.specs.Runs.{is_barrier}
 use Rattle.cx_work.specs.declared.objects.Objects.{Objects}
 use Rattle.cx_work.specs.declared.standing.Standing.{Standing}
-use Rattle.cx_work.specs.declared.token.Token.{Token}
-use Rattle.cx_work.specs.Bodies.{scene_in, all_in}
+use Rattle.cx_kinds.specs.declared.access.Access.{Access}
+use Rattle.cx_work.specs.Bodies.{scene_in}
 use Rattle.cx_work.specs.Steps.{IsAt}
-use Rattle.cx_work.proofs.Stepping.{no_barrier}
 use Rattle.cx_run.specs.declared.place.Place.{Place}
 use Rattle.cx_run.specs.declared.place.Place.TheVariants as places
 use Rattle.cx_run.specs.declared.run.Run.{Run}
-use Rattle.cx_run.specs.Runs.{tally, IsAwaited}
-use Rattle.cx_run.proofs.Parts.{any_left_kept, runs_here, off_job, set_kept, joined_run, joined_tally}
-use Rattle.cx_run.proofs.Stepped.{here_as, here_low, names_here, left_run}
+use Rattle.cx_run.specs.Runs.{tally, objects_at, IsAwaited}
+use Rattle.cx_run.proofs.Parts.{awaited_at, joined_stands, any_left_kept, runs_here, off_job, set_kept, joined_run, joined_tally}
+use Rattle.cx_run.proofs.Stepped.{here_as, here_low, names_here, left_run, own_run, own_kept, back_kept, back_run, join_fits, taken_fits}
 use Rattle.cx_run.proofs.run.Run.join.Goals as goal
 
 pub returns-in_default-clause-kept : goal.returns-in_default-clause-kept
 returns-in_default-clause-kept g c = any_left_kept c.args.self.now c.leave.new.self c.args.u c.leave.result c.requires.run.kept c.leave.ensures.parts c.leave.ensures.here
 
 pub await_end-requires-clause-kept : goal.await_end-requires-clause-kept
-await_end-requires-clause-kept g c κs within = any_left_kept c.args.self.now c.leave.new.self c.args.u c.leave.result c.requires.run.kept c.leave.ensures.parts c.leave.ensures.here
+await_end-requires-clause-kept g c κs within = own_kept c.leave.new.self (any_left_kept c.args.self.now c.leave.new.self c.args.u c.leave.result c.requires.run.kept c.leave.ensures.parts c.leave.ensures.here)
 
 pub await_end-requires-clause-job : goal.await_end-requires-clause-job
 await_end-requires-clause-job g c κs within =
     let l = c.leave.new.self in
     let u = c.args.u in
     let r : Run g.row.G.Denot = record { objects = l.objects; main = l.main; others = c.args.self.now.others } in
-    let run = left_run c.args.self.now l c.requires.run c.leave.ensures.parts in
+    let run_0 = left_run c.args.self.now l c.requires.run c.leave.ensures.parts in
+    let run = own_run r run_0 in
     let t = c.in-Some-Running.thread in
     let h = here_as u.0 c.in-Some-Running.field-0 (places.Running t) r.others.items l.others.items c.in-Some-Running.field-0-is c.in-Some-Running.ensures.here in
-    off_job (scene_in r.objects) (all_in r.objects) (suc (u.0 - 1)) (run.goes.first (suc (u.0 - 1))) t (runs_here r (u.0 - 1) t run h.was)
+    off_job (scene_in r.objects) (objects_at r) (suc (u.0 - 1)) (run.goes.first (suc (u.0 - 1))) t (runs_here r (u.0 - 1) t run h.was)
 
 pub index_mut-requires : goal.index_mut-requires
 index_mut-requires g c =
     let l = c.leave.new.self in
     let u = c.args.u in
     let r : Run g.row.G.Denot = record { objects = l.objects; main = l.main; others = c.args.self.now.others } in
-    let run = left_run c.args.self.now l c.requires.run c.leave.ensures.parts in
+    let run_0 = left_run c.args.self.now l c.requires.run c.leave.ensures.parts in
+    let run = own_run r run_0 in
     let t = c.in-Some-Running.thread in
     let h = here_as u.0 c.in-Some-Running.field-0 (places.Running t) r.others.items l.others.items c.in-Some-Running.field-0-is c.in-Some-Running.ensures.here in
     let low = here_low u.0 (places.Running t) r.others.items l.others.items h in
@@ -56,73 +56,83 @@ take-requires-clause-formed g c =
     let l = c.leave.new.self in
     let u = c.args.u in
     let r : Run g.row.G.Denot = record { objects = l.objects; main = l.main; others = c.args.self.now.others } in
-    let run = left_run c.args.self.now l c.requires.run c.leave.ensures.parts in
+    let run_0 = left_run c.args.self.now l c.requires.run c.leave.ensures.parts in
+    let run = own_run r run_0 in
     let t = c.in-Some-Running.thread in
     let h = here_as u.0 c.in-Some-Running.field-0 (places.Running t) r.others.items l.others.items c.in-Some-Running.field-0-is c.in-Some-Running.ensures.here in
     let is_plan = c.deref.ensures ∙ ap (λ (o : Objects). arc_value o.plan) c.in_ok-list.ensures.parts.0 in
     subst (λ (p : Plan). IsTrue (ltb 0 u.0 && can_start (slice_get p.threads.items u.0))) (sym is_plan) (names_here r u (places.Running t) l.others.items run h)
 
-pub take-requires-clause-barriers : goal.take-requires-clause-barriers
-take-requires-clause-barriers g c =
+pub take-requires-clause-at : goal.take-requires-clause-at
+take-requires-clause-at g c =
     let l = c.leave.new.self in
     let u = c.args.u in
     let r : Run g.row.G.Denot = record { objects = l.objects; main = l.main; others = c.args.self.now.others } in
-    let run = left_run c.args.self.now l c.requires.run c.leave.ensures.parts in
-    let is_plan = c.deref.ensures ∙ ap (λ (o : Objects). arc_value o.plan) c.in_ok-list.ensures.parts.0 in
-    subst (λ (p : Plan). (o : ℕ) → is_barrier (slice_get p.objects.items o) ≡ false) (sym is_plan) (no_barrier (scene_in r.objects).objects (all_in r.objects) run.kept.made)
+    let run_0 = left_run c.args.self.now l c.requires.run c.leave.ensures.parts in
+    let run = own_run r run_0 in
+    let t = c.in-Some-Running.thread in
+    let h = here_as u.0 c.in-Some-Running.field-0 (places.Running t) r.others.items l.others.items c.in-Some-Running.field-0-is c.in-Some-Running.ensures.here in
+    let parts = c.in_ok-list.ensures.parts in
+    let is_plan = c.deref.ensures ∙ ap (λ (o : Objects). arc_value o.plan) parts.0 in
+    let at_ = awaited_at r u t c.in_ok-list.list.items c.await_end.new.self.main.accesses.items l.others.items run h c.in_ok-list.ensures.ended in
+    joined_stands _ _ _ _ _ _ _ _ is_plan c.await_end.ensures.kept.thread (ap (λ (v : Vec Item). v.items) parts.2) parts.3 at_
 
 pub returns-in_err-take-clause-kept : goal.returns-in_err-take-clause-kept
 returns-in_err-take-clause-kept g c =
     let l = c.leave.new.self in
     let u = c.args.u in
     let r : Run g.row.G.Denot = record { objects = l.objects; main = l.main; others = c.args.self.now.others } in
-    let run = left_run c.args.self.now l c.requires.run c.leave.ensures.parts in
+    let run_0 = left_run c.args.self.now l c.requires.run c.leave.ensures.parts in
+    let run = own_run r run_0 in
     let t = c.in-Some-Running.thread in
     let h = here_as u.0 c.in-Some-Running.field-0 (places.Running t) r.others.items l.others.items c.in-Some-Running.field-0-is c.in-Some-Running.ensures.here in
     let ys = c.in_ok-list.list in
     let e : Place g.row.G.Denot = places.Ended ys in
-    let kept = set_kept c.await_end.new.self _ (u.0 - 1) e c.await_end.ensures.kept tt refl c.take.ensures.same.0 (ap (λ (v : Vec Token). v.items) c.take.ensures.same.1) refl in
-    kept
+    let kept = set_kept c.await_end.new.self _ (u.0 - 1) e c.await_end.ensures.kept tt refl c.take.ensures.same.0 (ap (λ (v : Vec Access). v.items) c.take.ensures.same.1) refl in
+    back_kept r _ run_0 kept
 
 pub returns-clause-kept : goal.returns-clause-kept
 returns-clause-kept g c =
     let l = c.leave.new.self in
     let u = c.args.u in
     let r : Run g.row.G.Denot = record { objects = l.objects; main = l.main; others = c.args.self.now.others } in
-    let run = left_run c.args.self.now l c.requires.run c.leave.ensures.parts in
+    let run_0 = left_run c.args.self.now l c.requires.run c.leave.ensures.parts in
+    let run = own_run r run_0 in
     let t = c.in-Some-Running.thread in
     let h = here_as u.0 c.in-Some-Running.field-0 (places.Running t) r.others.items l.others.items c.in-Some-Running.field-0-is c.in-Some-Running.ensures.here in
     let ys = c.in_ok-list.list in
     let e : Place g.row.G.Denot = places.Ended ys in
-    let kept = set_kept c.await_end.new.self _ (u.0 - 1) e c.await_end.ensures.kept tt refl c.take.ensures.same.0 (ap (λ (v : Vec Token). v.items) c.take.ensures.same.1) refl in
-    kept
+    let kept = set_kept c.await_end.new.self _ (u.0 - 1) e c.await_end.ensures.kept tt refl c.take.ensures.same.0 (ap (λ (v : Vec Access). v.items) c.take.ensures.same.1) refl in
+    back_kept r _ run_0 kept
 
 pub returns-clause-run : goal.returns-clause-run
 returns-clause-run g c =
     let l = c.leave.new.self in
     let u = c.args.u in
     let r : Run g.row.G.Denot = record { objects = l.objects; main = l.main; others = c.args.self.now.others } in
-    let run = left_run c.args.self.now l c.requires.run c.leave.ensures.parts in
+    let run_0 = left_run c.args.self.now l c.requires.run c.leave.ensures.parts in
+    let run = own_run r run_0 in
     let t = c.in-Some-Running.thread in
     let h = here_as u.0 c.in-Some-Running.field-0 (places.Running t) r.others.items l.others.items c.in-Some-Running.field-0-is c.in-Some-Running.ensures.here in
     let ys = c.in_ok-list.list in
     let e : Place g.row.G.Denot = places.Ended ys in
-    let kept = set_kept c.await_end.new.self _ (u.0 - 1) e c.await_end.ensures.kept tt refl c.take.ensures.same.0 (ap (λ (v : Vec Token). v.items) c.take.ensures.same.1) refl in
+    let kept = set_kept c.await_end.new.self _ (u.0 - 1) e c.await_end.ensures.kept tt refl c.take.ensures.same.0 (ap (λ (v : Vec Access). v.items) c.take.ensures.same.1) refl in
     let parts = c.in_ok-list.ensures.parts in
-    let is_tokens = ap (λ (v : Vec Token). v.items) c.take.ensures.same.1 in
-    let awaited = subst (λ (k : List Token). IsAwaited (scene_in r.objects) (all_in r.objects) t ys.items r.main.tokens.items k) (sym is_tokens) c.in_ok-list.ensures.ended in
+    let is_accesses = ap (λ (v : Vec Access). v.items) c.take.ensures.same.1 in
+    let awaited = subst (λ (k : List Access). IsAwaited (scene_in r.objects) (objects_at r) t ys.items r.main.accesses.items k) (sym is_accesses) c.in_ok-list.ensures.ended in
     let is_plan = c.deref.ensures ∙ ap (λ (o : Objects). arc_value o.plan) parts.0 in
     let at_ = subst (λ (p : Plan). IsAt (scene_of p) c.take.new.self) is_plan c.in_ok-take.ensures.at in
     let grown = c.in_ok-take.ensures.list ∙ ap (λ (v : Vec Item). v.items ++ items.Control (controls.Join u) ∷ []) parts.2 in
     let set_ = ap (λ (v : Vec (Place g.row.G.Denot)). slice_set v.items (u.0 - 1) e) parts.1 in
-    joined_run r _ u t ys l.others.items run h awaited parts.0 kept set_ grown at_
+    back_run r _ run_0 (joined_run r _ u t ys l.others.items run h awaited parts.0 kept set_ grown at_)
 
 pub returns-clause-tally : goal.returns-clause-tally
 returns-clause-tally g c =
     let l = c.leave.new.self in
     let u = c.args.u in
     let r : Run g.row.G.Denot = record { objects = l.objects; main = l.main; others = c.args.self.now.others } in
-    let run = left_run c.args.self.now l c.requires.run c.leave.ensures.parts in
+    let run_0 = left_run c.args.self.now l c.requires.run c.leave.ensures.parts in
+    let run = own_run r run_0 in
     let t = c.in-Some-Running.thread in
     let h = here_as u.0 c.in-Some-Running.field-0 (places.Running t) r.others.items l.others.items c.in-Some-Running.field-0-is c.in-Some-Running.ensures.here in
     let ys = c.in_ok-list.list in
@@ -133,3 +143,15 @@ returns-clause-tally g c =
     let grown = c.in_ok-take.ensures.list ∙ (ap (λ (v : Vec Item). v.items ++ items.Control (controls.Join u) ∷ []) parts.2 ∙ ap (λ (x : Standing). x.list.items ++ items.Control (controls.Join u) ∷ []) c.leave.ensures.parts.1) in
     let set_ = ap (λ (v : Vec (Place g.row.G.Denot)). slice_set v.items (u.0 - 1) e) parts.1 in
     joined_tally before now c.args.self.now.main.list.items c.take.new.self.list.items r.others.items l.others.items _ u t ys h set_ grown c.in_ok-list.ensures.faults c.in_ok-list.ensures.started c.in_ok-list.ensures.carried
+
+pub take-requires-clause-fits : goal.take-requires-clause-fits
+take-requires-clause-fits g c =
+    let v = c.args.self.now in
+    let a = c.await_end.new.self in
+    let u = c.args.u in
+    let parts = c.in_ok-list.ensures.parts in
+    let is_plan = c.deref.ensures ∙ (ap (λ (o : Objects). arc_value o.plan) parts.0 ∙ ap (λ (o : Objects). arc_value o.plan) c.leave.ensures.parts.0) in
+    taken_fits c.deref.result.now (arc_value v.objects.plan) a.main.thread v.main.local a.main.local _ (items.Control (controls.Join u)) is_plan c.await_end.ensures.kept.thread (parts.3 ∙ ap (λ (x : Standing). x.local) c.leave.ensures.parts.1) c.requires.next (join_fits (scene_in v.objects) u)
+
+pub take-requires-clause-undue : goal.take-requires-clause-undue
+take-requires-clause-undue g c = λ f shown leaves_completing agrees. refl

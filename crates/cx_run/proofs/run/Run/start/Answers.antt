@@ -1,26 +1,33 @@
 use Rattle.std.proofs.Common.{◌≡◌, ◌&&◌, ℕ, suc, ◌-◌, List, [], ◌∷◌, ◌++◌, ltb, slice_get, IsTrue, false, refl, sym, ap, ◌∙◌, subst, arith}
 use Rattle.std.specs.Global.{Vec}
+use Rattle.std.specs.Arc.{arc_value}
 use Rattle.std.specs.Vec.{with_items}
 use Rattle.cx_scene.specs.declared.plan.Plan.{Plan}
 use Rattle.cx_scene.specs.Scene.{scene_of}
 use Rattle.cx_items.specs.declared.item.Control.TheVariants as controls
 use Rattle.cx_items.specs.declared.item.Item.TheVariants as items
 use Rattle.cx_history.specs.IsRecord.{can_start}
-use Rattle.cx_fronts.specs.Runs.{is_barrier}
-use Rattle.cx_work.specs.declared.objects.RunObject.{RunObject}
+use Rattle.cx_work.specs.declared.objects.Objects.{Objects}
 use Rattle.cx_work.specs.declared.standing.Standing.{Standing}
-use Rattle.cx_work.specs.declared.token.Token.{Token}
+use Rattle.cx_kinds.specs.declared.access.Access.{Access}
 use Rattle.cx_work.specs.declared.work.Work.{Work}
-use Rattle.cx_work.specs.Bodies.{scene_in, all_in}
+use Rattle.cx_work.specs.Bodies.{scene_in}
 use Rattle.cx_work.specs.Steps.{IsAt}
-use Rattle.cx_work.proofs.Stepping.{no_barrier}
 use Rattle.cx_run.specs.declared.place.Place.TheVariants as places
 use Rattle.cx_run.specs.declared.run.Run.{Run}
-use Rattle.cx_run.specs.Runs.{tally}
+use Rattle.cx_run.specs.Runs.{tally, objects_at}
 use Rattle.cx_run.specs.Handing.{AllAsBefore}
-use Rattle.cx_run.proofs.Parts.{IsRenewed, vec_is, waits_here, ready_tokens, met_needs, begun_kept, begun_run, begun_tally}
-use Rattle.cx_run.proofs.Stepped.{tokens_as, before_as, meets_as, here_as, here_low, names_here, left_run}
+use Rattle.cx_run.proofs.Parts.{IsRenewed, same_at, at_zero, met_stands, vec_is, waits_here, ready_accesses, met_needs, begun_kept, begun_run, begun_tally}
+use Rattle.cx_run.proofs.Stepped.{own_as, others_as, before_as, meets_as, here_as, here_low, names_here, left_run, start_fits, taken_fits}
 use Rattle.cx_run.proofs.run.Run.start.Goals as goal
+
+pub meet_all-requires-clause-from : goal.meet_all-requires-clause-from
+meet_all-requires-clause-from g c =
+    let l = c.leave.new.self in
+    let u = c.args.u in
+    let r : Run g.row.G.Denot = record { objects = l.objects; main = l.main; others = c.args.self.now.others } in
+    let run = left_run c.args.self.now l c.requires.run c.leave.ensures.parts in
+    (0, own_as (objects_at c.args.self.now) c.as_mut_slice.result.now r.main.accesses.items 0 c.as_mut_slice.ensures.value run.kept.accesses)
 
 pub meet_all-requires-clause-to : goal.meet_all-requires-clause-to
 meet_all-requires-clause-to g c =
@@ -30,8 +37,7 @@ meet_all-requires-clause-to g c =
     let run = left_run c.args.self.now l c.requires.run c.leave.ensures.parts in
     let w = c.in-Some-Waiting.work in
     let h = here_as u.0 c.in-Some-Waiting.field-0 (places.Waiting w) r.others.items l.others.items c.in-Some-Waiting.field-0-is c.in-Some-Waiting.ensures.here in
-    let is_os = c.as_slice.ensures.value ∙ ap (λ (v : Vec RunObject). v.items) c.deref.ensures in
-    (suc (u.0 - 1), tokens_as c.as_slice.result.now (all_in r.objects) c.as_mut_slice-2.result.now w.standing.tokens.items (suc (u.0 - 1)) is_os c.as_mut_slice-2.ensures.value (ready_tokens (scene_in r.objects) (all_in r.objects) (suc (u.0 - 1)) w (waits_here r u w l.others.items run h)))
+    (suc (u.0 - 1), others_as (objects_at c.args.self.now) c.as_mut_slice.result.now r.main.accesses.items c.as_mut_slice-2.result.now w.standing.accesses.items 0 (suc (u.0 - 1)) c.as_mut_slice.ensures.value c.as_mut_slice-2.ensures.value run.kept.accesses (ready_accesses (scene_in r.objects) (objects_at c.args.self.now) (suc (u.0 - 1)) w (waits_here r u w l.others.items run h)))
 
 pub begin-place-requires-clause-needs : goal.begin-place-requires-clause-needs
 begin-place-requires-clause-needs g c κs within =
@@ -41,11 +47,10 @@ begin-place-requires-clause-needs g c κs within =
     let run = left_run c.args.self.now l c.requires.run c.leave.ensures.parts in
     let w = c.in-Some-Waiting.work in
     let h = here_as u.0 c.in-Some-Waiting.field-0 (places.Waiting w) r.others.items l.others.items c.in-Some-Waiting.field-0-is c.in-Some-Waiting.ensures.here in
-    let is_os = c.as_slice.ensures.value ∙ ap (λ (v : Vec RunObject). v.items) c.deref.ensures in
-    let meets = meets_as c.as_slice.result.now (all_in r.objects) c.as_mut_slice.result.now r.main.tokens.items c.as_mut_slice-2.result.now w.standing.tokens.items c.meet_all.new.to is_os c.as_mut_slice.ensures.value c.as_mut_slice-2.ensures.value c.meet_all.ensures.to in
-    let w' : Work g.row.G.Denot = record w { standing = record w.standing { tokens = with_items w.standing.tokens c.meet_all.new.to } } in
-    let renewed : IsRenewed w w' c.meet_all.new.to = record { objects = refl; thread = refl; list = refl; local = refl; tokens = vec_is w.standing.tokens c.meet_all.new.to meets.count } in
-    met_needs (scene_in r.objects) (all_in r.objects) (suc (u.0 - 1)) r.main.tokens.items c.meet_all.new.to w w' (waits_here r u w l.others.items run h) run.kept.tokens meets renewed
+    let meets = meets_as c.as_mut_slice.result.now r.main.accesses.items c.as_mut_slice-2.result.now w.standing.accesses.items c.meet_all.new.to c.as_mut_slice.ensures.value c.as_mut_slice-2.ensures.value c.meet_all.ensures.to in
+    let w' : Work g.row.G.Denot = record w { standing = record w.standing { accesses = with_items w.standing.accesses c.meet_all.new.to } } in
+    let renewed : IsRenewed w w' c.meet_all.new.to = record { objects = refl; thread = refl; list = refl; local = refl; accesses = vec_is w.standing.accesses c.meet_all.new.to meets.count } in
+    met_needs (scene_in r.objects) (objects_at c.args.self.now) (suc (u.0 - 1)) r.main.accesses.items c.meet_all.new.to w w' (waits_here r u w l.others.items run h) run.kept.accesses meets renewed
 
 pub index_mut-requires : goal.index_mut-requires
 index_mut-requires g c =
@@ -67,15 +72,17 @@ take-requires-clause-formed g c =
     let run = left_run c.args.self.now l c.requires.run c.leave.ensures.parts in
     let w = c.in-Some-Waiting.work in
     let h = here_as u.0 c.in-Some-Waiting.field-0 (places.Waiting w) r.others.items l.others.items c.in-Some-Waiting.field-0-is c.in-Some-Waiting.ensures.here in
-    subst (λ (p : Plan). IsTrue (ltb 0 u.0 && can_start (slice_get p.threads.items u.0))) (sym c.deref-2.ensures) (names_here r u (places.Waiting w) l.others.items run h)
+    subst (λ (p : Plan). IsTrue (ltb 0 u.0 && can_start (slice_get p.threads.items u.0))) (sym c.deref.ensures) (names_here r u (places.Waiting w) l.others.items run h)
 
-pub take-requires-clause-barriers : goal.take-requires-clause-barriers
-take-requires-clause-barriers g c =
+pub take-requires-clause-at : goal.take-requires-clause-at
+take-requires-clause-at g c =
     let l = c.leave.new.self in
     let u = c.args.u in
     let r : Run g.row.G.Denot = record { objects = l.objects; main = l.main; others = c.args.self.now.others } in
     let run = left_run c.args.self.now l c.requires.run c.leave.ensures.parts in
-    subst (λ (p : Plan). (o : ℕ) → is_barrier (slice_get p.objects.items o) ≡ false) (sym c.deref-2.ensures) (no_barrier (scene_in r.objects).objects (all_in r.objects) run.kept.made)
+    let same' = before_as c.as_mut_slice.result.now r.main.accesses.items c.meet_all.new.from c.as_mut_slice.ensures.value c.meet_all.ensures.from in
+    let at_ = same_at (scene_in r.objects) (objects_at c.args.self.now) 0 r.main.accesses.items c.meet_all.new.from r.main.list.items r.main.local run.kept.accesses same' (at_zero run) in
+    met_stands _ r.main.thread r.main.accesses c.meet_all.new.from r.main.list.items r.main.local _ c.deref.ensures run.kept.thread (vec_is r.main.accesses c.meet_all.new.from same'.count) at_
 
 pub returns-in_err-take-clause-kept : goal.returns-in_err-take-clause-kept
 returns-in_err-take-clause-kept g c =
@@ -85,13 +92,12 @@ returns-in_err-take-clause-kept g c =
     let run = left_run c.args.self.now l c.requires.run c.leave.ensures.parts in
     let w = c.in-Some-Waiting.work in
     let h = here_as u.0 c.in-Some-Waiting.field-0 (places.Waiting w) r.others.items l.others.items c.in-Some-Waiting.field-0-is c.in-Some-Waiting.ensures.here in
-    let is_os = c.as_slice.ensures.value ∙ ap (λ (v : Vec RunObject). v.items) c.deref.ensures in
-    let meets = meets_as c.as_slice.result.now (all_in r.objects) c.as_mut_slice.result.now r.main.tokens.items c.as_mut_slice-2.result.now w.standing.tokens.items c.meet_all.new.to is_os c.as_mut_slice.ensures.value c.as_mut_slice-2.ensures.value c.meet_all.ensures.to in
-    let w' : Work g.row.G.Denot = record w { standing = record w.standing { tokens = with_items w.standing.tokens c.meet_all.new.to } } in
-    let renewed : IsRenewed w w' c.meet_all.new.to = record { objects = refl; thread = refl; list = refl; local = refl; tokens = vec_is w.standing.tokens c.meet_all.new.to meets.count } in
-    let same' = before_as c.as_slice.result.now (all_in r.objects) c.as_mut_slice.result.now r.main.tokens.items c.meet_all.new.from is_os c.as_mut_slice.ensures.value c.meet_all.ensures.from in
-    let is_tokens = ap (λ (v : Vec Token). v.items) c.take.ensures.same.1 ∙ vec_is r.main.tokens c.meet_all.new.from same'.count in
-    let same = subst (λ (k : List Token). AllAsBefore (all_in r.objects) r.main.tokens.items k) (sym is_tokens) same' in
+    let meets = meets_as c.as_mut_slice.result.now r.main.accesses.items c.as_mut_slice-2.result.now w.standing.accesses.items c.meet_all.new.to c.as_mut_slice.ensures.value c.as_mut_slice-2.ensures.value c.meet_all.ensures.to in
+    let w' : Work g.row.G.Denot = record w { standing = record w.standing { accesses = with_items w.standing.accesses c.meet_all.new.to } } in
+    let renewed : IsRenewed w w' c.meet_all.new.to = record { objects = refl; thread = refl; list = refl; local = refl; accesses = vec_is w.standing.accesses c.meet_all.new.to meets.count } in
+    let same' = before_as c.as_mut_slice.result.now r.main.accesses.items c.meet_all.new.from c.as_mut_slice.ensures.value c.meet_all.ensures.from in
+    let is_accesses = ap (λ (v : Vec Access). v.items) c.take.ensures.same.1 ∙ vec_is r.main.accesses c.meet_all.new.from same'.count in
+    let same = subst (λ (k : List Access). AllAsBefore r.main.accesses.items k) (sym is_accesses) same' in
     begun_kept r _ u w w' c.meet_all.new.to l.others.items c.begin-place.result.1 c.begin-place.result.0 run h same meets renewed c.begin-place.ensures.place refl c.take.ensures.same.0 refl
 
 pub returns-clause-kept : goal.returns-clause-kept
@@ -102,13 +108,12 @@ returns-clause-kept g c =
     let run = left_run c.args.self.now l c.requires.run c.leave.ensures.parts in
     let w = c.in-Some-Waiting.work in
     let h = here_as u.0 c.in-Some-Waiting.field-0 (places.Waiting w) r.others.items l.others.items c.in-Some-Waiting.field-0-is c.in-Some-Waiting.ensures.here in
-    let is_os = c.as_slice.ensures.value ∙ ap (λ (v : Vec RunObject). v.items) c.deref.ensures in
-    let meets = meets_as c.as_slice.result.now (all_in r.objects) c.as_mut_slice.result.now r.main.tokens.items c.as_mut_slice-2.result.now w.standing.tokens.items c.meet_all.new.to is_os c.as_mut_slice.ensures.value c.as_mut_slice-2.ensures.value c.meet_all.ensures.to in
-    let w' : Work g.row.G.Denot = record w { standing = record w.standing { tokens = with_items w.standing.tokens c.meet_all.new.to } } in
-    let renewed : IsRenewed w w' c.meet_all.new.to = record { objects = refl; thread = refl; list = refl; local = refl; tokens = vec_is w.standing.tokens c.meet_all.new.to meets.count } in
-    let same' = before_as c.as_slice.result.now (all_in r.objects) c.as_mut_slice.result.now r.main.tokens.items c.meet_all.new.from is_os c.as_mut_slice.ensures.value c.meet_all.ensures.from in
-    let is_tokens = ap (λ (v : Vec Token). v.items) c.take.ensures.same.1 ∙ vec_is r.main.tokens c.meet_all.new.from same'.count in
-    let same = subst (λ (k : List Token). AllAsBefore (all_in r.objects) r.main.tokens.items k) (sym is_tokens) same' in
+    let meets = meets_as c.as_mut_slice.result.now r.main.accesses.items c.as_mut_slice-2.result.now w.standing.accesses.items c.meet_all.new.to c.as_mut_slice.ensures.value c.as_mut_slice-2.ensures.value c.meet_all.ensures.to in
+    let w' : Work g.row.G.Denot = record w { standing = record w.standing { accesses = with_items w.standing.accesses c.meet_all.new.to } } in
+    let renewed : IsRenewed w w' c.meet_all.new.to = record { objects = refl; thread = refl; list = refl; local = refl; accesses = vec_is w.standing.accesses c.meet_all.new.to meets.count } in
+    let same' = before_as c.as_mut_slice.result.now r.main.accesses.items c.meet_all.new.from c.as_mut_slice.ensures.value c.meet_all.ensures.from in
+    let is_accesses = ap (λ (v : Vec Access). v.items) c.take.ensures.same.1 ∙ vec_is r.main.accesses c.meet_all.new.from same'.count in
+    let same = subst (λ (k : List Access). AllAsBefore r.main.accesses.items k) (sym is_accesses) same' in
     begun_kept r _ u w w' c.meet_all.new.to l.others.items c.begin-place.result.1 c.begin-place.result.0 run h same meets renewed c.begin-place.ensures.place refl c.take.ensures.same.0 refl
 
 pub returns-clause-run : goal.returns-clause-run
@@ -119,14 +124,13 @@ returns-clause-run g c =
     let run = left_run c.args.self.now l c.requires.run c.leave.ensures.parts in
     let w = c.in-Some-Waiting.work in
     let h = here_as u.0 c.in-Some-Waiting.field-0 (places.Waiting w) r.others.items l.others.items c.in-Some-Waiting.field-0-is c.in-Some-Waiting.ensures.here in
-    let is_os = c.as_slice.ensures.value ∙ ap (λ (v : Vec RunObject). v.items) c.deref.ensures in
-    let meets = meets_as c.as_slice.result.now (all_in r.objects) c.as_mut_slice.result.now r.main.tokens.items c.as_mut_slice-2.result.now w.standing.tokens.items c.meet_all.new.to is_os c.as_mut_slice.ensures.value c.as_mut_slice-2.ensures.value c.meet_all.ensures.to in
-    let w' : Work g.row.G.Denot = record w { standing = record w.standing { tokens = with_items w.standing.tokens c.meet_all.new.to } } in
-    let renewed : IsRenewed w w' c.meet_all.new.to = record { objects = refl; thread = refl; list = refl; local = refl; tokens = vec_is w.standing.tokens c.meet_all.new.to meets.count } in
-    let same' = before_as c.as_slice.result.now (all_in r.objects) c.as_mut_slice.result.now r.main.tokens.items c.meet_all.new.from is_os c.as_mut_slice.ensures.value c.meet_all.ensures.from in
-    let is_tokens = ap (λ (v : Vec Token). v.items) c.take.ensures.same.1 ∙ vec_is r.main.tokens c.meet_all.new.from same'.count in
-    let same = subst (λ (k : List Token). AllAsBefore (all_in r.objects) r.main.tokens.items k) (sym is_tokens) same' in
-    let at_ = subst (λ (p : Plan). IsAt (scene_of p) c.take.new.self) c.deref-2.ensures c.in_ok-take.ensures.at in
+    let meets = meets_as c.as_mut_slice.result.now r.main.accesses.items c.as_mut_slice-2.result.now w.standing.accesses.items c.meet_all.new.to c.as_mut_slice.ensures.value c.as_mut_slice-2.ensures.value c.meet_all.ensures.to in
+    let w' : Work g.row.G.Denot = record w { standing = record w.standing { accesses = with_items w.standing.accesses c.meet_all.new.to } } in
+    let renewed : IsRenewed w w' c.meet_all.new.to = record { objects = refl; thread = refl; list = refl; local = refl; accesses = vec_is w.standing.accesses c.meet_all.new.to meets.count } in
+    let same' = before_as c.as_mut_slice.result.now r.main.accesses.items c.meet_all.new.from c.as_mut_slice.ensures.value c.meet_all.ensures.from in
+    let is_accesses = ap (λ (v : Vec Access). v.items) c.take.ensures.same.1 ∙ vec_is r.main.accesses c.meet_all.new.from same'.count in
+    let same = subst (λ (k : List Access). AllAsBefore r.main.accesses.items k) (sym is_accesses) same' in
+    let at_ = subst (λ (p : Plan). IsAt (scene_of p) c.take.new.self) c.deref.ensures c.in_ok-take.ensures.at in
     begun_run r _ u w w' c.meet_all.new.to l.others.items c.begin-place.result.1 c.begin-place.result.0 run h same meets renewed c.begin-place.ensures.place refl c.take.ensures.same.0 refl c.in_ok-take.ensures.list at_
 
 pub returns-clause-tally : goal.returns-clause-tally
@@ -141,3 +145,15 @@ returns-clause-tally g c =
     let now = tally (g.P.Spawner.faults c.begin-place.new.spawner) (g.P.Spawner.started c.begin-place.new.spawner) (g.P.Spawner.carried c.begin-place.new.spawner) in
     let grown = c.in_ok-take.ensures.list ∙ ap (λ (x : Standing). x.list.items ++ items.Control (controls.Start u c.begin-place.result.1) ∷ []) c.leave.ensures.parts.1 in
     begun_tally before now c.args.self.now.main.list.items c.take.new.self.list.items r.others.items l.others.items _ u w _ c.begin-place.result.1 c.begin-place.result.0 h c.begin-place.ensures.place refl grown c.begin-place.ensures.tally
+
+pub take-requires-clause-fits : goal.take-requires-clause-fits
+take-requires-clause-fits g c =
+    let v = c.args.self.now in
+    let l = c.leave.new.self in
+    let u = c.args.u in
+    let run = left_run v l c.requires.run c.leave.ensures.parts in
+    let is_plan = c.deref.ensures ∙ ap (λ (o : Objects). arc_value o.plan) c.leave.ensures.parts.0 in
+    taken_fits c.deref.result.now (arc_value v.objects.plan) l.main.thread v.main.local l.main.local _ (items.Control (controls.Start u c.begin-place.result.1)) is_plan run.kept.thread (ap (λ (x : Standing). x.local) c.leave.ensures.parts.1) c.requires.next (start_fits (scene_in v.objects) u c.begin-place.result.1)
+
+pub take-requires-clause-undue : goal.take-requires-clause-undue
+take-requires-clause-undue g c = λ f shown leaves_completing agrees. refl

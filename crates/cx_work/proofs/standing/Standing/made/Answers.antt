@@ -1,25 +1,29 @@
-use Rattle.std.proofs.Common.{◌≡◌, true, IfOk, sym, subst}
+use Rattle.std.proofs.Common.{◌≡◌, true, sym, ◌∙◌}
 use Rattle.cx_scene.specs.Scene.{scene_of}
 use Rattle.cx_items.specs.declared.item.Item.{Item}
 use Rattle.cx_history.specs.IsRecord.{is_item}
-use Rattle.cx_work.specs.declared.act.Next.{Next}
-use Rattle.cx_work.specs.Forms.{forms_of, forms_next, is_of_one}
-use Rattle.cx_work.specs.Steps.{is_made_alone}
-use Rattle.cx_work.proofs.Good.{if_ok, IsGood, acts_are_good, is_small}
+use Rattle.cx_asks.specs.Forms.{is_of_one}
+use Rattle.cx_work.specs.Steps.{StepsOn, forms_at, is_made_alone}
+use Rattle.cx_work.proofs.Asking.{IsGood, says_good, made_good, if_ok}
 use Rattle.cx_work.proofs.standing.Standing.made.Goals as goal
 
-pub returns-in-Acts-clause-alone : goal.returns-in-Acts-clause-alone
-returns-in-Acts-clause-alone g c =
-    let good = acts_are_good (scene_of c.args.plan.now) c.args.objects.now c.args.self.now.tokens.items c.act_on.new.tokens c.as_mut_slice.result.now c.in-Acts.o c.args.self.now.thread c.in-Acts.act c.act_on.result c.requires.made c.requires.tokens c.as_mut_slice.ensures.value (is_small c.args.next c.in-Acts.o c.in-Acts.act c.in-Acts.is c.requires.fit) c.act_on.ensures.item c.act_on.ensures.steps in
-    if_ok (λ (x : Item). IsGood (scene_of c.args.plan.now) c.in-Acts.o c.args.self.now.thread c.in-Acts.act x) (λ (x : Item). is_made_alone x ≡ true) c.act_on.result (λ x h. h.alone) good
+pub returns-in-Some-clause-fits : goal.returns-in-Some-clause-fits
+returns-in-Some-clause-fits g c = (says_good (scene_of c.args.plan.now) c.args.self.now.thread.0 c.args.self.now.accesses.items c.args.self.now.list.items c.args.self.now.local c.args.self.now.forms.items c.in-Some.reply c.requires.asks c.requires.accesses c.requires.at c.requires.next (sym c.as_slice.ensures.value ∙ c.in-Some.ensures)).0
 
-pub returns-in-Acts-clause-fits : goal.returns-in-Acts-clause-fits
-returns-in-Acts-clause-fits g c =
-    let good = acts_are_good (scene_of c.args.plan.now) c.args.objects.now c.args.self.now.tokens.items c.act_on.new.tokens c.as_mut_slice.result.now c.in-Acts.o c.args.self.now.thread c.in-Acts.act c.act_on.result c.requires.made c.requires.tokens c.as_mut_slice.ensures.value (is_small c.args.next c.in-Acts.o c.in-Acts.act c.in-Acts.is c.requires.fit) c.act_on.ensures.item c.act_on.ensures.steps in
-    let fits = if_ok (λ (x : Item). IsGood (scene_of c.args.plan.now) c.in-Acts.o c.args.self.now.thread c.in-Acts.act x) (λ (x : Item). is_of_one (scene_of c.args.plan.now) (forms_of c.in-Acts.o c.in-Acts.act) x ≡ true) c.act_on.result (λ x h. h.fits) good in
-    subst (λ (n : Next). IfOk c.act_on.result (λ x. is_of_one (scene_of c.args.plan.now) (forms_next n) x ≡ true)) (sym c.in-Acts.is) fits
+pub returns-in-Some-clause-formed : goal.returns-in-Some-clause-formed
+returns-in-Some-clause-formed g c = (says_good (scene_of c.args.plan.now) c.args.self.now.thread.0 c.args.self.now.accesses.items c.args.self.now.list.items c.args.self.now.local c.args.self.now.forms.items c.in-Some.reply c.requires.asks c.requires.accesses c.requires.at c.requires.next (sym c.as_slice.ensures.value ∙ c.in-Some.ensures)).1
 
-pub returns-in-Acts-clause-formed : goal.returns-in-Acts-clause-formed
-returns-in-Acts-clause-formed g c =
-    let good = acts_are_good (scene_of c.args.plan.now) c.args.objects.now c.args.self.now.tokens.items c.act_on.new.tokens c.as_mut_slice.result.now c.in-Acts.o c.args.self.now.thread c.in-Acts.act c.act_on.result c.requires.made c.requires.tokens c.as_mut_slice.ensures.value (is_small c.args.next c.in-Acts.o c.in-Acts.act c.in-Acts.is c.requires.fit) c.act_on.ensures.item c.act_on.ensures.steps in
-    if_ok (λ (x : Item). IsGood (scene_of c.args.plan.now) c.in-Acts.o c.args.self.now.thread c.in-Acts.act x) (λ (x : Item). is_item (scene_of c.args.plan.now) c.args.self.now.thread.0 x ≡ true) c.act_on.result (λ x h. h.formed) good
+pub returns-in-None-clause-accesses : goal.returns-in-None-clause-accesses
+returns-in-None-clause-accesses g c = c.acted.ensures.accesses c.args.self.now.thread.0 c.requires.accesses
+
+pub returns-in-None-clause-steps : goal.returns-in-None-clause-steps
+returns-in-None-clause-steps g c = if_ok (λ x. IsGood (scene_of c.args.plan.now) c.args.self.now.thread.0 (forms_at (scene_of c.args.plan.now) c.args.self.now.thread.0 c.args.self.now.local) c.args.self.now.accesses.items c.acted.new.accesses.items x) (λ x. StepsOn c.args.self.now.accesses.items c.acted.new.accesses.items x) c.acted.result (λ x good. good.steps) (made_good (scene_of c.args.plan.now) c.args.self.now.thread.0 c.args.self.now.accesses.items c.acted.new.accesses.items c.args.self.now.list.items c.args.self.now.local c.args.self.now.forms.items c.as_slice-in-None.result.now c.acted.result c.requires.made c.requires.accesses c.requires.asks c.requires.at c.requires.next c.as_slice-in-None.ensures.value c.acted.ensures.asked)
+
+pub returns-in-None-clause-alone : goal.returns-in-None-clause-alone
+returns-in-None-clause-alone g c = if_ok (λ x. IsGood (scene_of c.args.plan.now) c.args.self.now.thread.0 (forms_at (scene_of c.args.plan.now) c.args.self.now.thread.0 c.args.self.now.local) c.args.self.now.accesses.items c.acted.new.accesses.items x) (λ x. is_made_alone x ≡ true) c.acted.result (λ x good. good.alone) (made_good (scene_of c.args.plan.now) c.args.self.now.thread.0 c.args.self.now.accesses.items c.acted.new.accesses.items c.args.self.now.list.items c.args.self.now.local c.args.self.now.forms.items c.as_slice-in-None.result.now c.acted.result c.requires.made c.requires.accesses c.requires.asks c.requires.at c.requires.next c.as_slice-in-None.ensures.value c.acted.ensures.asked)
+
+pub returns-in-None-clause-fits : goal.returns-in-None-clause-fits
+returns-in-None-clause-fits g c = if_ok (λ x. IsGood (scene_of c.args.plan.now) c.args.self.now.thread.0 (forms_at (scene_of c.args.plan.now) c.args.self.now.thread.0 c.args.self.now.local) c.args.self.now.accesses.items c.acted.new.accesses.items x) (λ x. is_of_one (scene_of c.args.plan.now) (forms_at (scene_of c.args.plan.now) c.args.self.now.thread.0 c.args.self.now.local) x ≡ true) c.acted.result (λ x good. good.fits) (made_good (scene_of c.args.plan.now) c.args.self.now.thread.0 c.args.self.now.accesses.items c.acted.new.accesses.items c.args.self.now.list.items c.args.self.now.local c.args.self.now.forms.items c.as_slice-in-None.result.now c.acted.result c.requires.made c.requires.accesses c.requires.asks c.requires.at c.requires.next c.as_slice-in-None.ensures.value c.acted.ensures.asked)
+
+pub returns-in-None-clause-formed : goal.returns-in-None-clause-formed
+returns-in-None-clause-formed g c = if_ok (λ x. IsGood (scene_of c.args.plan.now) c.args.self.now.thread.0 (forms_at (scene_of c.args.plan.now) c.args.self.now.thread.0 c.args.self.now.local) c.args.self.now.accesses.items c.acted.new.accesses.items x) (λ x. is_item (scene_of c.args.plan.now) c.args.self.now.thread.0 x ≡ true) c.acted.result (λ x good. good.formed) (made_good (scene_of c.args.plan.now) c.args.self.now.thread.0 c.args.self.now.accesses.items c.acted.new.accesses.items c.args.self.now.list.items c.args.self.now.local c.args.self.now.forms.items c.as_slice-in-None.result.now c.acted.result c.requires.made c.requires.accesses c.requires.asks c.requires.at c.requires.next c.as_slice-in-None.ensures.value c.acted.ensures.asked)
