@@ -1,0 +1,4 @@
+pub mod Seeds
+pub mod Plain
+pub mod Found
+pub mod Ranges

@@ -1,0 +1,7 @@
+pub mod Replays
+pub mod Completing
+pub mod Found
+pub mod Building
+pub mod Runs
+pub mod Made
+pub mod Refusing

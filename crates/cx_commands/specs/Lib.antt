@@ -1,0 +1,11 @@
+pub mod FaultLine
+pub mod Exit
+pub mod Top
+pub mod Answers
+pub mod Complete
+pub mod Checks
+pub mod Findings
+pub mod Built
+pub mod Running
+pub mod Making
+pub mod Commanded
