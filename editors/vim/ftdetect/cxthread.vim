@@ -1,0 +1,2 @@
+" Made by tools/grammar.
+autocmd BufRead,BufNewFile *.cx,*.replay,*.record setfiletype cxthread
