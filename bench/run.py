@@ -14,6 +14,8 @@ which the program is started, and the program's own is then below it. The inputs
   waiting     32 threads with about 64,000 calls in all, while 31 threads of lower number wait
   names       65,536 lines `wait_stop` with names of 16 bytes, the last of which has a fault: the reader alone
   padded      a short text padded with blanks and comments to 8,388,608 bytes, with a fault on its last line
+  make N      where the program knows the word `make`: it reads nothing, and lines and bytes are those of what it writes,
+              which has to be the text of `buffer N`
   check ..    where the program knows the word `check`: the record of `buffer 4800`, and one of about three million
               lines, in which 60 threads in a wait with a predicate are notified again and again
 
@@ -151,6 +153,8 @@ REPLAYS = [
     ('names', names, ['replay'], 3),
     ('padded', padded, ['replay'], 3),
 ]
+# How many items are made.
+MAKES = [1_200, 2_400, 4_800]
 # Name and the scenario whose replay is checked.
 CHECKS = [('check of buffer 4800', lambda: buffer(4_800)), ('check of notified', notified)]
 
@@ -227,6 +231,12 @@ def main():
                 replay(words)
                 table.row(name, text, words, wanted, items_in(written))
         make(empty)
+        for items in MAKES if replay(['make', '1']) != 2 else []:
+            if only in f'make {items}':
+                replay(['make', str(items)])
+                with open(written) as file:
+                    table.wrong += file.read() != buffer(items)
+                table.row(f'make {items}', written, ['make', str(items)], 0, 0)
         for name, text_maker in CHECKS if replay(['check']) != 2 else []:
             if only in name:
                 make(text_maker)
