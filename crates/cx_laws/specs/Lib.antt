@@ -1,0 +1,10 @@
+pub mod History
+pub mod Mutex
+pub mod Shared
+pub mod Semaphore
+pub mod Latch
+pub mod Barrier
+pub mod Once
+pub mod Condition
+pub mod Stop
+pub mod Future
