@@ -1,5 +1,5 @@
-//! Tests of machines, turns, cells, mutexes, semaphores and latches, by their public calls; and a
-//! caller of two recursive mutexes, which is proved from their contracts alone.
+//! Tests of machines, turns, cells, mutexes, shared mutexes, semaphores and latches, by their public
+//! calls; and a caller of two recursive mutexes, which is proved from their contracts alone.
 #![tactic(auto)]
 
 #[cfg(test)]
@@ -9,6 +9,10 @@ mod coupling;
 mod machine;
 #[cfg(test)]
 mod mutex;
+#[cfg(test)]
+mod shared_mutex;
+#[cfg(test)]
+mod shared_threads;
 #[cfg(test)]
 mod states;
 #[cfg(test)]

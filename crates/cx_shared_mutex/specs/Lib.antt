@@ -1,0 +1,4 @@
+pub mod Kinds
+pub mod Owners
+pub mod SharedMutexes
+pub mod Keys
