@@ -1,0 +1,4 @@
+pub mod Graph
+pub mod Tally
+pub mod Hubs
+pub mod Marks

@@ -1,0 +1,13 @@
+pub mod Walks
+pub mod Tallying
+pub mod Nodes
+pub mod Linked
+pub mod Positions
+pub mod Rows
+pub mod Reduction
+pub mod Paths
+pub mod Given
+pub mod Graphing
+pub mod Clocked
+pub mod Apt
+pub mod Told

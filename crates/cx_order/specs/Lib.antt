@@ -1,0 +1,9 @@
+pub mod Points
+pub mod Table
+pub mod Edges
+pub mod Arcs
+pub mod Counts
+pub mod Parts
+pub mod Gives
+pub mod Graphs
+pub mod Order
