@@ -41,6 +41,13 @@ same_there {X = X} xs i x y lt p q = one_there (slice_get xs i) (stands xs i x l
     one_there : (o : Option X) → o ≡ Some x → o ≡ Some y → x ≡ y
     one_there o a b = cc
 
+-- what was offered at an index is what is offered there
+pub tried_there : (s : Scene) (rs : List (Option RunnerNow)) (t : ℕ) (q : Option RunnerNow) (fs : List Form) → slice_get rs t ≡ Some q → fs ≡ forms_there s t (option_map (runner_of s t) q) → (r : Option RunnerNow) → slice_get rs t ≡ Some r → (slice_get rs t ≡ Some r) × (fs ≡ forms_there s t (option_map (runner_of s t) r))
+tried_there s rs t q fs at_ offered_ r h = (h, subst (λ o. fs ≡ forms_there s t (option_map (runner_of s t) o)) (one_there at_ h) offered_)
+  where
+    one_there : {z : Option (Option RunnerNow)} {a b : Option RunnerNow} → z ≡ Some a → z ≡ Some b → a ≡ b
+    one_there p e = cc
+
 -- ---- a thread begins
 
 pub begun_nowhere : (s : Scene) (u : ℕ) (rs : List (Option Runner)) → length rs ≤ u → rs ≡ begun_at s u rs

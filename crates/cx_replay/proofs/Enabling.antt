@@ -81,7 +81,7 @@ after_some s things t r (items.Look o l) h = then_reply s things t (goes_on s th
 after_some s things t r (items.Control c) h = then_reply s things t (goes_on s things t r (items.Control c)) (goes_some s things t r (items.Control c) h)
 
 -- a started thread that can make an item is enabled
-stepped_some : (s : Scene) (w : World) (t : ℕ) (r : Runner) → is_some (first_made s w t (forms_there s t (Some r))) ≡ is_some (stepped s w t (Some r))
+pub stepped_some : (s : Scene) (w : World) (t : ℕ) (r : Runner) → is_some (first_made s w t (forms_there s t (Some r))) ≡ is_some (stepped s w t (Some r))
 stepped_some s w t r = go (first_made s w t (forms_there s t (Some r))) refl
   where
     go : (o : Option Made) → first_made s w t (forms_there s t (Some r)) ≡ o → is_some o ≡ is_some (option_and_then (after_step s w t r) o)

@@ -22,3 +22,4 @@ pub mod Formed
 pub mod Scenes
 pub mod Counting
 pub mod Lightness
+pub mod StillKnown

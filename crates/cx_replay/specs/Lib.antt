@@ -3,3 +3,4 @@ pub mod Starting
 pub mod Schedule
 pub mod Views
 pub mod Standing
+pub mod Knowing

@@ -3,6 +3,7 @@
 
 mod acts;
 mod draws;
+mod knowing;
 mod making;
 mod moves;
 mod objects;

@@ -13,7 +13,7 @@ use cx_names::{NoMemory, ThreadNo};
 use cx_scene::Plan;
 
 /// Whether a control can be made now: every start can, and a join once its thread has ended.
-fn can_do(plan: &Plan, runners: &[Option<RunnerNow>], control: Control) -> bool
+pub fn can_do(plan: &Plan, runners: &[Option<RunnerNow>], control: Control) -> bool
     ensures { result ≡ can_do (world_of (scene_of plan.now) [] runners.now) control }
 {
     match control {

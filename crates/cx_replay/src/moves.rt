@@ -1,4 +1,4 @@
-ghost use Rattle.std.specs.Prelude.{◌≡◌, ◌<◌, true, map, length, is_some, IfOk};
+ghost use Rattle.std.specs.Prelude.{◌≡◌, ◌<◌, true, false, map, length, slice_get, is_some, Some, IfOk};
 ghost use Rattle.std.specs.Option.{option_map};
 ghost use Rattle.cx_scene.specs.Scene.{scene_of};
 ghost use Rattle.cx_replay.specs.Schedule.{step_of, begun_at, with_beginner};
@@ -101,6 +101,7 @@ pub fn step(
     requires room { HasRoom (map thing_of objects.old.items) }
     ensures made { IfOk result (λ made. Steps made (step_of (scene_of plan.now) (world_of (scene_of plan.now) objects.old.items runners.old.items) t.0) (world_of (scene_of plan.now) objects.old.items runners.old.items) (world_of (scene_of plan.now) objects.new.items runners.new.items)) }
     ensures same_number { length runners.new.items ≡ length runners.old.items }
+    ensures tried { IfOk result (λ made. made ≡ false → (r : _) → slice_get runners.old.items t.0 ≡ Some r → (slice_get runners.new.items t.0 ≡ Some r) × (forms.new.items ≡ forms_there (scene_of plan.now) t.0 (option_map (runner_of (scene_of plan.now) t.0) r))) }
 {
     let i = t.0 as usize;
     offer(plan, &runners[i], t, forms)?;
@@ -124,7 +125,8 @@ pub fn is_enabled(
     t: ThreadNo,
 ) -> Result<bool, NoMemory>
     requires { t.0 < length runners.now }
-    ensures { IfOk result (λ enabled. enabled ≡ is_some (step_of (scene_of plan.now) (world_of (scene_of plan.now) objects.now runners.now) t.0)) }
+    ensures enabled { IfOk result (λ enabled. enabled ≡ is_some (step_of (scene_of plan.now) (world_of (scene_of plan.now) objects.now runners.now) t.0)) }
+    ensures tried { IfOk result (λ _. (r : _) → slice_get runners.now t.0 ≡ Some r → forms.new.items ≡ forms_there (scene_of plan.now) t.0 (option_map (runner_of (scene_of plan.now) t.0) r)) }
 {
     let runner = &runners[t.0 as usize];
     offer(plan, runner, t, forms)?;

@@ -1,11 +1,13 @@
-ghost use Rattle.std.specs.Prelude.{◌≡◌, ◌++◌, ◌∷◌, [], map, Some, None, if◌then◌else◌, IfOk};
+ghost use Rattle.std.specs.Prelude.{◌≡◌, ◌++◌, ◌∷◌, [], map, replicate, Some, None, if◌then◌else◌, IfOk};
 ghost use Rattle.cx_scene.specs.Scene.{scene_of};
 ghost use Rattle.cx_history.specs.Views.{listed, number_of};
 ghost use Rattle.std.specs.Option.{option_map};
+ghost use Rattle.cx_replay.specs.declared.knowing.Known.TheVariants.{Nothing};
 ghost use Rattle.cx_replay.specs.Schedule.{Replays, IsLight, opening_runners, is_live, live_from};
 ghost use Rattle.cx_replay.specs.Views.{runner_of, runners_from, kept_list, replayed_of, replayed_in, IsLiveWhereStuck};
 
 use crate::draws::generator;
+use crate::knowing::Known;
 use crate::objects::open;
 use crate::runner::RunnerNow;
 use crate::turning::{thread, turn, turn_drawn};
@@ -41,6 +43,13 @@ fn opening_runners(alloc: Global, plan: &Plan) -> Result<Vec<Option<RunnerNow>>,
         runners.push(None)?;
     }
     Ok(runners)
+}
+
+/// Nothing known of each of so many threads.
+fn unknown(alloc: Global, count: usize) -> Result<Vec<Known>, NoMemory>
+    ensures { IfOk result (λ known. known.items ≡ replicate count Nothing) }
+{
+    Ok(vec![in alloc; Known::Nothing; count]?)
 }
 
 /// The threads that have begun and not ended.
@@ -135,8 +144,16 @@ fn replay_first(alloc: Global, plan: &Plan) -> Result<Replayed, NoMemory>
     let mut objects = open(alloc, &plan.objects)?;
     let mut runners = opening_runners(alloc, plan)?;
     let mut forms = Vec::new(alloc);
+    let mut known = unknown(alloc, runners.len())?;
     for _count in 0..TURNS {
-        let made = turn(alloc, plan, &mut objects, &mut runners, &mut forms)?;
+        let made = turn(
+            alloc,
+            plan,
+            &mut objects,
+            &mut runners,
+            &mut forms,
+            &mut known,
+        )?;
         if !made {
             let outcome = end(alloc, plan, runners)?;
             return Ok(outcome);
@@ -155,6 +172,7 @@ fn replay_drawn(alloc: Global, plan: &Plan, seed: u64) -> Result<Replayed, NoMem
     let mut objects = open(alloc, &plan.objects)?;
     let mut runners = opening_runners(alloc, plan)?;
     let mut forms = Vec::new(alloc);
+    let mut known = unknown(alloc, runners.len())?;
     let mut enabled = Vec::new(alloc);
     for _count in 0..TURNS {
         let made = turn_drawn(
@@ -163,6 +181,7 @@ fn replay_drawn(alloc: Global, plan: &Plan, seed: u64) -> Result<Replayed, NoMem
             &mut objects,
             &mut runners,
             &mut forms,
+            &mut known,
             &mut enabled,
             &mut generator,
         )?;

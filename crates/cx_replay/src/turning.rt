@@ -1,10 +1,13 @@
-ghost use Rattle.std.specs.Prelude.{◌≡◌, ◌<◌, ◌==◌, ◌%◌, ◌++◌, ◌∷◌, [], if◌then◌else◌, is_some, Some, slice_get, length, map, IfOk};
+ghost use Rattle.std.specs.Prelude.{◌≡◌, ◌<◌, ◌==◌, ◌%◌, ◌++◌, ◌∷◌, [], if◌then◌else◌, true, false, is_some, Some, slice_get, length, map, IfOk};
 ghost use Rattle.cx_scene.specs.Scene.{scene_of};
 ghost use Rattle.cx_replay.specs.Schedule.{steps, step_of, turn};
 ghost use Rattle.cx_replay.specs.SplitMix.{next_seed, word};
+ghost use Rattle.cx_replay.specs.declared.knowing.Known.TheVariants.{Nothing};
+ghost use Rattle.cx_replay.specs.Knowing.{IsKnown, Knows};
 ghost use Rattle.cx_replay.specs.Views.{thing_of, world_of, Steps, AreEnabled, Draws, HasRoom};
 
 use crate::draws::draw;
+use crate::knowing::{Known, note, note_tried};
 use crate::moves::{is_enabled, step};
 use crate::objects::ObjectNow;
 use crate::runner::RunnerNow;
@@ -21,25 +24,81 @@ pub fn thread(i: usize) -> Result<ThreadNo, NoMemory>
     Ok(ThreadNo(u32::try_from(i).ok().ok_or(NoMemory)?))
 }
 
-/// The first of the enabled threads makes its next step; whether there is one.
+/// The next step of thread `t`, unless it is known not to be enabled; whether it was made. `known` is what is
+/// known of the thread.
+fn try_step(
+    alloc: Global,
+    plan: &Plan,
+    objects: &mut Vec<ObjectNow>,
+    runners: &mut Vec<Option<RunnerNow>>,
+    forms: &mut Vec<Form>,
+    known: &mut Known,
+    t: ThreadNo,
+) -> Result<bool, NoMemory>
+    requires number { t.0 < length runners.old.items }
+    requires room { HasRoom (map thing_of objects.old.items) }
+    requires known { (r : _) → slice_get (world_of (scene_of plan.now) objects.old.items runners.old.items).runners t.0 ≡ Some r → IsKnown (scene_of plan.now) (world_of (scene_of plan.now) objects.old.items runners.old.items) t.0 r known.old }
+    ensures made { IfOk result (λ made. Steps made (step_of (scene_of plan.now) (world_of (scene_of plan.now) objects.old.items runners.old.items) t.0) (world_of (scene_of plan.now) objects.old.items runners.old.items) (world_of (scene_of plan.now) objects.new.items runners.new.items)) }
+    ensures same_number { length runners.new.items ≡ length runners.old.items }
+    ensures known { IfOk result (λ made. (made ≡ true → known.new ≡ Nothing) × (made ≡ false → (r : _) → slice_get (world_of (scene_of plan.now) objects.old.items runners.old.items).runners t.0 ≡ Some r → IsKnown (scene_of plan.now) (world_of (scene_of plan.now) objects.old.items runners.old.items) t.0 r known.new)) }
+{
+    match known.answer(plan, objects, runners) {
+        Some(false) => return Ok(false),
+        _ => {}
+    }
+    let made = step(alloc, plan, objects, runners, forms, t)?;
+    let runner = &runners[t.0 as usize];
+    *known = note_tried(objects, runner, forms, made);
+    Ok(made)
+}
+
+/// The first of the enabled threads makes its next step; whether there is one. `known` is what is known of
+/// each thread.
 pub fn turn(
     alloc: Global,
     plan: &Plan,
     objects: &mut Vec<ObjectNow>,
     runners: &mut Vec<Option<RunnerNow>>,
     forms: &mut Vec<Form>,
+    known: &mut Vec<Known>,
 ) -> Result<bool, NoMemory>
-    requires { HasRoom (map thing_of objects.old.items) }
-    ensures { IfOk result (λ made. Steps made (slice_get (steps (scene_of plan.now) (world_of (scene_of plan.now) objects.old.items runners.old.items)) 0) (world_of (scene_of plan.now) objects.old.items runners.old.items) (world_of (scene_of plan.now) objects.new.items runners.new.items)) }
+    requires room { HasRoom (map thing_of objects.old.items) }
+    requires known { Knows (scene_of plan.now) (world_of (scene_of plan.now) objects.old.items runners.old.items) known.old.items }
+    ensures made { IfOk result (λ made. Steps made (slice_get (steps (scene_of plan.now) (world_of (scene_of plan.now) objects.old.items runners.old.items)) 0) (world_of (scene_of plan.now) objects.old.items runners.old.items) (world_of (scene_of plan.now) objects.new.items runners.new.items)) }
+    ensures known { IfOk result (λ _. Knows (scene_of plan.now) (world_of (scene_of plan.now) objects.new.items runners.new.items) known.new.items) }
 {
     for i in 0..runners.len() {
         let t = thread(i)?;
-        let made = step(alloc, plan, objects, runners, forms, t)?;
+        let made = try_step(alloc, plan, objects, runners, forms, &mut known[i], t)?;
         if made {
             return Ok(true);
         }
     }
     Ok(false)
+}
+
+/// Whether thread `t` is enabled. `known` is what is known of the thread.
+fn find_out(
+    plan: &Plan,
+    objects: &[ObjectNow],
+    runners: &[Option<RunnerNow>],
+    forms: &mut Vec<Form>,
+    known: &mut Known,
+    t: ThreadNo,
+) -> Result<bool, NoMemory>
+    requires number { t.0 < length runners.now }
+    requires known { (r : _) → slice_get (world_of (scene_of plan.now) objects.now runners.now).runners t.0 ≡ Some r → IsKnown (scene_of plan.now) (world_of (scene_of plan.now) objects.now runners.now) t.0 r known.old }
+    ensures enabled { IfOk result (λ enabled. enabled ≡ is_some (step_of (scene_of plan.now) (world_of (scene_of plan.now) objects.now runners.now) t.0)) }
+    ensures known { IfOk result (λ _. (r : _) → slice_get (world_of (scene_of plan.now) objects.now runners.now).runners t.0 ≡ Some r → IsKnown (scene_of plan.now) (world_of (scene_of plan.now) objects.now runners.now) t.0 r known.new) }
+{
+    match known.answer(plan, objects, runners) {
+        Some(enabled) => return Ok(enabled),
+        None => {}
+    }
+    let enabled = is_enabled(plan, objects, runners, forms, t)?;
+    let runner = &runners[t.0 as usize];
+    *known = note(objects, runner, forms, enabled);
+    Ok(enabled)
 }
 
 /// Puts thread `t` after the others, where it is enabled.
@@ -48,34 +107,40 @@ fn push_enabled(
     objects: &[ObjectNow],
     runners: &[Option<RunnerNow>],
     forms: &mut Vec<Form>,
+    known: &mut Known,
     t: ThreadNo,
     enabled: &mut Vec<ThreadNo>,
 ) -> Result<(), NoMemory>
-    requires { t.0 < length runners.now }
-    ensures { IfOk result (λ _. enabled.new.items ≡ enabled.old.items ++ (if is_some (step_of (scene_of plan.now) (world_of (scene_of plan.now) objects.now runners.now) t.0) then t ∷ [] else [])) }
+    requires number { t.0 < length runners.now }
+    requires known { (r : _) → slice_get (world_of (scene_of plan.now) objects.now runners.now).runners t.0 ≡ Some r → IsKnown (scene_of plan.now) (world_of (scene_of plan.now) objects.now runners.now) t.0 r known.old }
+    ensures pushed { IfOk result (λ _. enabled.new.items ≡ enabled.old.items ++ (if is_some (step_of (scene_of plan.now) (world_of (scene_of plan.now) objects.now runners.now) t.0) then t ∷ [] else [])) }
+    ensures known { IfOk result (λ _. (r : _) → slice_get (world_of (scene_of plan.now) objects.now runners.now).runners t.0 ≡ Some r → IsKnown (scene_of plan.now) (world_of (scene_of plan.now) objects.now runners.now) t.0 r known.new) }
 {
-    let is = is_enabled(plan, objects, runners, forms, t)?;
+    let is = find_out(plan, objects, runners, forms, known, t)?;
     if is {
         enabled.push(t)?;
     }
     Ok(())
 }
 
-/// The enabled threads, into `enabled` in place of what is there.
+/// The enabled threads, into `enabled` in place of what is there. `known` is what is known of each thread.
 fn put_enabled(
     plan: &Plan,
     objects: &[ObjectNow],
     runners: &[Option<RunnerNow>],
     forms: &mut Vec<Form>,
+    known: &mut Vec<Known>,
     enabled: &mut Vec<ThreadNo>,
 ) -> Result<(), NoMemory>
-    ensures { IfOk result (λ _. AreEnabled (scene_of plan.now) (world_of (scene_of plan.now) objects.now runners.now) enabled.new.items) }
+    requires { Knows (scene_of plan.now) (world_of (scene_of plan.now) objects.now runners.now) known.old.items }
+    ensures enabled { IfOk result (λ _. AreEnabled (scene_of plan.now) (world_of (scene_of plan.now) objects.now runners.now) enabled.new.items) }
+    ensures known { IfOk result (λ _. Knows (scene_of plan.now) (world_of (scene_of plan.now) objects.now runners.now) known.new.items) }
 {
     enabled.clear();
     let count = runners.len();
     for i in 0..count {
         let t = thread(i)?;
-        push_enabled(plan, objects, runners, forms, t, enabled)?;
+        push_enabled(plan, objects, runners, forms, &mut known[i], t, enabled)?;
     }
     Ok(())
 }
@@ -102,13 +167,16 @@ pub fn turn_drawn(
     objects: &mut Vec<ObjectNow>,
     runners: &mut Vec<Option<RunnerNow>>,
     forms: &mut Vec<Form>,
+    known: &mut Vec<Known>,
     enabled: &mut Vec<ThreadNo>,
     generator: &mut SplitMix64,
 ) -> Result<bool, NoMemory>
-    requires { HasRoom (map thing_of objects.old.items) }
-    ensures { IfOk result (λ made. Draws made (turn (scene_of plan.now) (record { world = world_of (scene_of plan.now) objects.old.items runners.old.items; seed = Some generator.old })) (world_of (scene_of plan.now) objects.old.items runners.old.items) (world_of (scene_of plan.now) objects.new.items runners.new.items) generator.new) }
+    requires room { HasRoom (map thing_of objects.old.items) }
+    requires known { Knows (scene_of plan.now) (world_of (scene_of plan.now) objects.old.items runners.old.items) known.old.items }
+    ensures known { IfOk result (λ _. Knows (scene_of plan.now) (world_of (scene_of plan.now) objects.new.items runners.new.items) known.new.items) }
+    ensures made { IfOk result (λ made. Draws made (turn (scene_of plan.now) (record { world = world_of (scene_of plan.now) objects.old.items runners.old.items; seed = Some generator.old })) (world_of (scene_of plan.now) objects.old.items runners.old.items) (world_of (scene_of plan.now) objects.new.items runners.new.items) generator.new) }
 {
-    put_enabled(plan, objects, runners, forms, enabled)?;
+    put_enabled(plan, objects, runners, forms, known, enabled)?;
     let count = enabled.len();
     if count == 0 {
         return Ok(false);
@@ -116,5 +184,6 @@ pub fn turn_drawn(
     let i = choose(generator, count);
     let t = enabled[i];
     let made = step(alloc, plan, objects, runners, forms, t)?;
+    known[t.0 as usize] = Known::Nothing;
     Ok(made)
 }

@@ -2,7 +2,7 @@ use Rattle.std.proofs.Common.{◌≡◌, map, subst}
 use Rattle.std.specs.Option.{option_map}
 use Rattle.cx_scene.specs.Scene.{scene_of}
 use Rattle.cx_replay.specs.Views.{thing_of, runner_of, world_of, forms_there}
-use Rattle.cx_replay.proofs.Advancing.{stands, same_there, may_go_on, step_made, step_not_made}
+use Rattle.cx_replay.proofs.Advancing.{stands, same_there, may_go_on, step_made, step_not_made, tried_there}
 use Rattle.cx_replay.proofs.moves.step.Goals as goal
 
 pub advance-requires : goal.advance-requires
@@ -31,3 +31,6 @@ returns-in-None-clause-made c =
     let rs = c.args.runners.now.items in
     let t = c.args.t.0 in
     step_not_made s c.args.objects.now.items c.make_first.new.objects.items rs t c.index.result.now c.offer.new.forms.items (stands rs t c.index.result.now c.requires.number c.index.ensures) c.in_ok-offer.ensures (rw (c.in-None.is, c.deref.ensures.value, c.deref-2.ensures.value) at c.in_ok-made.ensures)
+
+pub returns-in-None-clause-tried : goal.returns-in-None-clause-tried
+returns-in-None-clause-tried c = λ not_made r h. tried_there (scene_of c.args.plan.now) c.args.runners.now.items c.args.t.0 c.index.result.now c.offer.new.forms.items (stands c.args.runners.now.items c.args.t.0 c.index.result.now c.requires.number c.index.ensures) c.in_ok-offer.ensures r h

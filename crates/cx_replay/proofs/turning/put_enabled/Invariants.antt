@@ -1,5 +1,6 @@
 use Rattle.std.proofs.Common.{◌≡◌, ◌++◌, drop, map}
 use Rattle.cx_scene.specs.Scene.{scene_of}
+use Rattle.cx_replay.specs.Knowing.{Knows}
 use Rattle.cx_replay.specs.Schedule.{steps_from, steps}
 use Rattle.cx_replay.specs.Views.{runners_from, world_of}
 use Rattle.cx_replay.proofs.Drawing.{step_at, some}
@@ -9,4 +10,7 @@ abbrev pub invariant-loop-i : goal.invariant-loop-i
 invariant-loop-i l =
     let s = scene_of l.plan in
     let w = world_of s l.objects l.runners in
-    map (step_at s w) l.enabled.items ++ map some (steps_from s w l.i (drop l.i (runners_from s 0 l.runners))) ≡ map some (steps s w)
+    record {
+      known : Knows s w l.known.items;
+      enabled : map (step_at s w) l.enabled.items ++ map some (steps_from s w l.i (drop l.i (runners_from s 0 l.runners))) ≡ map some (steps s w);
+    }
