@@ -28,7 +28,7 @@ fn pause(tries: u32) {
     }
 }
 
-fn entry(by: ThreadNo, op: Op, wish: &Wish, reply: Reply) -> Entry
+pub(crate) fn entry(by: ThreadNo, op: Op, wish: &Wish, reply: Reply) -> Entry
     ensures { result ≡ change by op wish.now.a wish.now.b reply }
 {
     Entry {
@@ -95,7 +95,7 @@ impl<M: Meaning, S: Machine<M>> Cell<M, S> {
     }
 
     // Wakes those who are to be woken, and gives whom it woke.
-    fn rouse(&self, pass: &mut Pass<M>, called: &Called) -> Called
+    pub(crate) fn rouse(&self, pass: &mut Pass<M>, called: &Called) -> Called
         requires { IsCellPass S.meaning M.Meaning self.now pass.old }
         ensures pass { (v : View M) → IsCellPassWith S.meaning M.Meaning self.now pass.old v → IsCellPassWith S.meaning M.Meaning self.now pass.new v }
         ensures woken { (n : ℕ) → n < cell_seats S.meaning self.now → is_called result n ≡ is_called called.now n }

@@ -11,6 +11,7 @@ mod attempt;
 mod called;
 mod calls;
 mod cell;
+mod next;
 mod offer;
 mod queued;
 mod wish;

@@ -1,2 +1,4 @@
 pub mod Turns
 pub mod Starts
+pub mod SharedStarts
+pub mod Meetings

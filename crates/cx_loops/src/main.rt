@@ -10,9 +10,12 @@
 
 ghost use Rattle.std.specs.Prelude.{◌≤◌};
 
+mod barriers;
+mod flags;
 mod latches;
 mod mutexes;
 mod semaphores;
+mod shared_mutexes;
 mod taken;
 #[cfg(test)]
 mod tests;
@@ -34,10 +37,13 @@ enum Work {
     Turn,
     Mutex,
     Race,
+    Share,
     Semaphore,
     PingPong,
     Sleep,
     Latch,
+    Phase,
+    Done,
 }
 
 // A loop: its name, how often it is run by default, and its threads.
@@ -48,7 +54,7 @@ struct Row {
     threads: u32,
 }
 
-const ROWS: [Row; 8] = [
+const ROWS: [Row; 12] = [
     Row {
         work: Work::Turn,
         often: 5_000_000,
@@ -66,6 +72,16 @@ const ROWS: [Row; 8] = [
     },
     Row {
         work: Work::Race,
+        often: 1_000_000,
+        threads: 4,
+    },
+    Row {
+        work: Work::Share,
+        often: 5_000_000,
+        threads: 1,
+    },
+    Row {
+        work: Work::Share,
         often: 1_000_000,
         threads: 4,
     },
@@ -89,6 +105,16 @@ const ROWS: [Row; 8] = [
         often: 5_000_000,
         threads: 1,
     },
+    Row {
+        work: Work::Phase,
+        often: 50_000,
+        threads: 4,
+    },
+    Row {
+        work: Work::Done,
+        often: 5_000_000,
+        threads: 1,
+    },
 ];
 
 impl Work {
@@ -97,10 +123,13 @@ impl Work {
             Work::Turn => "turn_change",
             Work::Mutex => "mutex_lock_unlock",
             Work::Race => "mutex_contended",
+            Work::Share => "shared_mutex_read",
             Work::Semaphore => "semaphore_release_acquire",
             Work::PingPong => "semaphore_pingpong",
             Work::Sleep => "semaphore_sleep",
             Work::Latch => "latch_count_down",
+            Work::Phase => "barrier_phase",
+            Work::Done => "call_once_passive",
         }
     }
 }
@@ -173,10 +202,18 @@ fn measure<R: Threads + Wait + Clock + Copy + Send + 'static>(
         Work::Turn => turns::alone(rt, alloc, n),
         Work::Mutex => mutexes::alone(rt, alloc, n),
         Work::Race => mutexes::together(rt, alloc, row.threads.max(1).min(64), n),
+        Work::Share => shared_mutexes::read(rt, alloc, row.threads.max(1).min(64), n),
         Work::Semaphore => semaphores::alone(rt, alloc, n),
         Work::PingPong => semaphores::ping_pong(rt, alloc, n),
         Work::Sleep => semaphores::sleep(rt, alloc, n),
         Work::Latch => latches::alone(rt, alloc, n),
+        Work::Phase => barriers::phases(
+            rt,
+            alloc,
+            row.threads.max(1).min(64),
+            n.min(barriers::MOST_PHASES),
+        ),
+        Work::Done => flags::done(rt, alloc, n),
     }
 }
 

@@ -27,8 +27,10 @@ fn rounds<R: Threads + Wait + Clock + Copy + Send + 'static>(
 fn one_thread_makes_all_rounds(rt: HostRuntime) -> Result<(), Fail> {
     assert!(rt; rounds(&rt, rt.alloc(), Work::Turn, 1) == Some(8));
     assert!(rt; rounds(&rt, rt.alloc(), Work::Mutex, 1) == Some(8));
+    assert!(rt; rounds(&rt, rt.alloc(), Work::Share, 1) == Some(8));
     assert!(rt; rounds(&rt, rt.alloc(), Work::Semaphore, 1) == Some(8));
     assert!(rt; rounds(&rt, rt.alloc(), Work::Latch, 1) == Some(8));
+    assert!(rt; rounds(&rt, rt.alloc(), Work::Done, 1) == Some(8));
     Ok(())
 }
 
@@ -36,6 +38,8 @@ fn one_thread_makes_all_rounds(rt: HostRuntime) -> Result<(), Fail> {
 fn threads_share_the_rounds(rt: HostRuntime) -> Result<(), Fail> {
     assert!(rt; rounds(&rt, rt.alloc(), Work::Race, 2) == Some(8));
     assert!(rt; rounds(&rt, rt.alloc(), Work::Race, 3) == Some(6));
+    assert!(rt; rounds(&rt, rt.alloc(), Work::Share, 4) == Some(8));
+    assert!(rt; rounds(&rt, rt.alloc(), Work::Phase, 4) == Some(8));
     assert!(rt; rounds(&rt, rt.alloc(), Work::PingPong, 2) == Some(8));
     assert!(rt; rounds(&rt, rt.alloc(), Work::Sleep, 2) == Some(1));
     Ok(())

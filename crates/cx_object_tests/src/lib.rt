@@ -1,7 +1,10 @@
-//! Tests of machines, turns, cells, mutexes, shared mutexes, semaphores and latches, by their public
-//! calls; and a caller of two recursive mutexes, which is proved from their contracts alone.
+//! Tests of machines, turns, cells, mutexes, shared mutexes, semaphores, latches, once flags and barriers,
+//! by their public calls; and a caller of two recursive mutexes, which is proved from their contracts
+//! alone.
 #![tactic(auto)]
 
+#[cfg(test)]
+mod barrier;
 #[cfg(test)]
 mod cell;
 mod coupling;
@@ -9,6 +12,8 @@ mod coupling;
 mod machine;
 #[cfg(test)]
 mod mutex;
+#[cfg(test)]
+mod once;
 #[cfg(test)]
 mod shared_mutex;
 #[cfg(test)]

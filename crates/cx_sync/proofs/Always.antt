@@ -14,7 +14,7 @@ never_both : {A : Type 0} (b : Bool) (x : A) → ◌≡◌ {A = Option A} (when 
 never_both true x e f = cc
 never_both false x e f = cc
 
-small_is : (n : ℤ) (k : ℕ) → n ≡ pos k → k < 2 ^ 32 → small_of n ≡ Some k
+pub small_is : (n : ℤ) (k : ℕ) → n ≡ pos k → k < 2 ^ 32 → small_of n ≡ Some k
 small_is n k e low = ap small_of e ∙ ap (λ (b : Bool). if b then Some k else None) (lt-ltb k (2 ^ 32) low)
 
 pub releases_or_not : (s : semaphore.Semaphore) (by : ThreadNo) (n : ℤ) (k : ℕ) → n ≡ pos k → k < 2 ^ 32 → IsShut (at_entry semaphore.step) s by ops.Release n (pos 0) → ShowsNone (at_look semaphore.shows) s by ops.Release n (pos 0) → ⊥

@@ -1,1 +1,3 @@
 pub mod Always
+pub mod Running
+pub mod Executions

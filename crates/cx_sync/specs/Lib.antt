@@ -1,3 +1,4 @@
 pub mod Kinds
 pub mod Sync
 pub mod Takes
+pub mod Onces

@@ -1,0 +1,5 @@
+pub mod Kinds
+pub mod Completions
+pub mod Phases
+pub mod Barriers
+pub mod Arriving
