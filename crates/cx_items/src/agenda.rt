@@ -23,13 +23,13 @@ impl Agenda {
     ghost use Rattle.std.specs.Option.{option_copied};
     ghost use Rattle.cx_items.specs.Next.{due, undue};
 
-    /// No task.
-    pub fn new(alloc: Global) -> Agenda
-        ensures { result ≡ [] }
+    /// No task, with memory for `room` of them.
+    pub fn with_room(alloc: Global, room: usize) -> Result<Agenda, NoMemory>
+        ensures { IfOk result (λ agenda. agenda ≡ []) }
     {
-        Agenda {
-            tasks: Vec::new(alloc),
-        }
+        Ok(Agenda {
+            tasks: Vec::with_capacity(alloc, room)?,
+        })
     }
 
     /// How many tasks there are.

@@ -14,7 +14,7 @@ use cx_names::{NoMemory, ObjectNo, Outcome, Reply, ThreadNo};
 use cx_scene::{Object, Plan, Thread};
 
 /// Whether thread `t` owns the promise or task.
-fn is_owned(object: &Object, t: ThreadNo) -> bool
+pub fn is_owned(object: &Object, t: ThreadNo) -> bool
     ensures { result ≡ is_number_of t.0 (owner_of object.now) }
 {
     match object {

@@ -11,6 +11,7 @@ mod item;
 mod kept;
 mod local;
 mod memory;
+mod room;
 mod step;
 mod task;
 

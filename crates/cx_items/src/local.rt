@@ -4,6 +4,7 @@ use crate::fit::Found;
 use crate::form::Form;
 use crate::item::Item;
 use crate::memory::Memory;
+use crate::room::room_for;
 use crate::task::Task;
 use cx_names::{NoMemory, Reply, ThreadNo};
 use cx_scene::{Plan, Thread};
@@ -25,13 +26,17 @@ impl Local {
     ghost use Rattle.cx_items.specs.Next.{Local as Stand};
     ghost use Rattle.cx_items.specs.Steps.{local_of, IsMove, Finds, form_of};
 
-    /// Thread `t` of the plan at its start.
+    /// Thread `t` of the plan at its start [thread.thread.constr].
+    ///
+    /// The memory that its items need later is taken here: what it keeps of each object, and room for its
+    /// registrations, for the threads that it starts and for what a call or the end of its body leaves to do.
+    /// `NoMemory` where memory doesn't suffice.
     pub fn start(alloc: Global, plan: &Plan, t: ThreadNo) -> Result<Local, NoMemory>
         ensures { IfOk result (λ l. local_of (scene_of plan.now) t.0 l ≡ local_at_start (scene_of plan.now) t.0) }
     {
         let mut local = Local {
             memory: Memory::start(alloc, plan, t)?,
-            agenda: Agenda::new(alloc),
+            agenda: Agenda::with_room(alloc, room_for(plan, t)?)?,
             next_call: 0,
         };
         match plan.thread(t) {

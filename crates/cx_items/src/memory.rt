@@ -74,18 +74,20 @@ fn kept_at_start(t: ThreadNo, object: &Object) -> Kept
 }
 
 impl Memory {
-    /// What thread `t` remembers at its start.
+    /// What thread `t` remembers at its start, with memory for what it remembers later: a call registers at
+    /// most one ID, and starts at most one thread.
     pub fn start(alloc: Global, plan: &Plan, t: ThreadNo) -> Result<Memory, NoMemory>
         ensures { IfOk result (λ m. m ≡ memory_at_start (scene_of plan.now) t.0) }
     {
+        let calls = plan.body(t).len();
         let mut kept = Vec::with_capacity(alloc, plan.objects.len())?;
         for object in plan.objects.iter() {
             kept.push(kept_at_start(t, object))?;
         }
         Ok(Memory {
             kept,
-            held: Vec::new(alloc),
-            joinable: Vec::new(alloc),
+            held: Vec::with_capacity(alloc, calls)?,
+            joinable: Vec::with_capacity(alloc, calls)?,
             turns: 0,
         })
     }
