@@ -4,7 +4,7 @@ use Rattle.std.specs.List.{list_all}
 use Rattle.cx_scene.specs.declared.call.Call.{Call}
 use Rattle.cx_scene.specs.Scene.{Scene, body_of}
 use Rattle.cx_text.specs.Words.{Filled, main_word}
-use Rattle.cx_script.specs.Script.{Script, names_of, name_at, calls_of}
+use Rattle.cx_script.specs.Script.{Script, names_of, name_at, declarations_of, calls_of}
 use Rattle.cx_script.specs.Numbered.{IsScript, numbered}
 use Rattle.cx_script.specs.WellFormed.{IsScene}
 use Rattle.cx_script.proofs.Fitting.{scene}
@@ -14,6 +14,7 @@ use Rattle.cx_script.proofs.Sum.{total}
 use Rattle.cx_script.proofs.Whole.{IsWhole, from_lines, Parts, parts_of, raw_known}
 use Rattle.cx_asks.specs.Scenes.{is_object_now, is_thread_now, takings, taken_in, taken_below, count_at, startings, IsAskable}
 use Rattle.cx_askable.proofs.Calls.{is_kept, calls_fit}
+use Rattle.cx_askable.proofs.Completions.{completed, completed_objects}
 use Rattle.cx_askable.proofs.Lines.{IsOnce, all_once, all_raw, all_kept}
 use Rattle.cx_askable.proofs.Totals.{sum_below, sum_of, sum_at_most, main_total, threads_total}
 use Rattle.cx_askable.proofs.Latches.{weight_at, calls_take, total_within}
@@ -95,6 +96,7 @@ module _ (ls : List Filled) (w : IsWhole ls) where
       let bodies : length (scene 1 ls).bodies ≡ length (names_of ls).threads = map_length (calls_of (names_of ls) ls) (names_of ls).threads in
       record {
         objects = now;
+        completions = completed_objects (scene 1 ls) 1 (declarations_of (names_of ls) ls) (completed ls [] ls refl w.fine);
         threads = run;
         few = good.few;
         calls = λ t. calls_fit (scene 1 ls) t now run none (body_of (scene 1 ls) t) (good.calls t) (kept_body p t);

@@ -1,4 +1,5 @@
 pub mod Calls
+pub mod Completions
 pub mod Lines
 pub mod Totals
 pub mod Latches

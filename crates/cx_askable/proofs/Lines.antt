@@ -1,9 +1,9 @@
 -- The counts and the names of each call of a text without a fault are kept.
 use Rattle.std.proofs.Common.{◌≡◌, ℕ, zero, suc, ◌<◌, ◌==◌, inl, inr, pos, Bool, true, false, ◌&&◌, ◌||◌, not, List, [], ◌∷◌, ◌++◌, length, map, replicate, min, max, Option, Some, None, refl, sym, ap, subst, ◌∙◌, arith, lt-ltb, eqb-true}
-use Rattle.std.specs.Prelude.{nat_lt, nat_le}
+use Rattle.std.specs.Prelude.{◌^◌, nat_lt, nat_le}
 use Rattle.std.specs.List.{AllByRecursion, list_all, flat_map}
 use Rattle.std.specs.Str.{bytes_eq}
-use Rattle.std.proofs.lemmas.Bool.{cases_Bool, and_from}
+use Rattle.std.proofs.lemmas.Bool.{cases_Bool, and_from, leb-true}
 use Rattle.std.proofs.lemmas.Slice.Eq.{bytes_eq-Decides}
 use Rattle.cx_names.specs.declared.ObjectNo.{ObjectNo}
 use Rattle.cx_machine.specs.Words.{has}
@@ -184,6 +184,14 @@ within true true h = refl
 within true false h = absurd cc
 within false b h = absurd cc
 
+between : (a b : Bool) → (not (a && b) || false) ≡ false → (a && b) ≡ true
+between true true h = refl
+between true false h = absurd cc
+between false b h = absurd cc
+
+small_kept : (n : ℕ) → nat_le n 4294967295 ≡ true → nat_lt n (2 ^ 32) ≡ true
+small_kept n h = let le = leb-true n 4294967295 h in lt-ltb n (2 ^ 32) (omega (arith, le))
+
 kept_at : (names : Names) (k : Option Made) (e : List Filled) (f : Form) (vs : List Value) → IsWellFilled scenario_lines 1 (line f vs) → AreFound names (spread (fields_of f) (length vs)) vs → has_outside e (line f vs) ≡ false → IsOnce (line f vs) → kept_where (call_of names k (line f vs) f) ≡ true
 kept_at names k e forms.LockAll vs fit found inside once = several_kept names _ vs 1 (omega arith) fit found once
 kept_at names k e forms.TryLockAll vs fit found inside once = several_kept names _ vs 0 (omega arith) fit found once
@@ -191,6 +199,10 @@ kept_at names k e forms.Release (AWord w ∷ ANumber (pos n) ∷ []) fit found i
 kept_at names k e forms.Release _ fit found inside once = absurd (assumption fit)
 kept_at names k e forms.CountDown (AWord w ∷ ANumber (pos n) ∷ []) fit found inside once = within (nat_le 0 n) (nat_le n 65535) inside
 kept_at names k e forms.CountDown _ fit found inside once = absurd (assumption fit)
+kept_at names k e forms.Arrive (AWord w ∷ ANumber (pos n) ∷ []) fit found inside once = between (nat_le 1 n) (nat_le n 4096) inside
+kept_at names k e forms.Arrive _ fit found inside once = absurd (assumption fit)
+kept_at names k e forms.CallOnceThrow (AWord w ∷ AWord v ∷ ANumber (pos n) ∷ []) fit found inside once = small_kept n (within (nat_le 0 n) (nat_le n 4294967295) inside)
+kept_at names k e forms.CallOnceThrow _ fit found inside once = absurd (assumption fit)
 kept_at names k e forms.Lock vs fit found inside once = if_kept k _ _ refl refl
 kept_at names k e forms.TryLock vs fit found inside once = if_kept k _ _ refl refl
 kept_at names k e forms.Wait vs fit found inside once = waits_kept k _

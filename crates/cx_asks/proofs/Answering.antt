@@ -14,7 +14,7 @@ use Rattle.cx_items.specs.declared.item.Item.TheVariants as items
 use Rattle.cx_items.specs.declared.form.Form.{Form}
 use Rattle.cx_items.specs.declared.form.Form.TheVariants as forms
 use Rattle.cx_items.specs.Memory.{Memory, of}
-use Rattle.cx_items.specs.Next.{Local, offered, local_at_start}
+use Rattle.cx_items.specs.Next.{Local, offered, settled_local, local_at_start}
 use Rattle.cx_items.specs.Steps.{form_of}
 use Rattle.cx_history.specs.Follows.{after_items}
 use Rattle.cx_asks.specs.declared.ask.Ask.{Ask}
@@ -26,7 +26,7 @@ use Rattle.cx_asks.specs.Spent.{takes_by, spent}
 use Rattle.cx_asks.specs.Laws.{Answers}
 use Rattle.cx_asks.proofs.Asking.{one_ask, served_asks}
 use Rattle.cx_asks.proofs.Latches.{shares_suffice}
-use Rattle.cx_asks.proofs.Offering.{offered_is_served}
+use Rattle.cx_asks.proofs.Offering.{offered_now_is_served}
 use Rattle.cx_asks.proofs.Replies.{changes_answer, looks_answer}
 
 -- an ask of the offered forms is served
@@ -111,9 +111,9 @@ look_is_of s t l fs o d k op found now x q h there leads on word is own few =
     (subst (λ (gs : List Form). Answers s x.by.0 gs (items.Look o (look_of x.by op k.a k.b x.reply x.at))) (sym may.forms) a))
 
 -- what an ask takes from a latch, with what the list has taken so far, is within what the text takes
-pub asked_takes : (s : Scene) (completes : ℕ → ℕ → Bool) (t : ℕ) (xs : List Item) (l : Local) (o : ObjectNo) (k : Ask) → IsAskable s → after_items s completes t (local_at_start s t) xs ≡ Some l → IsAskOf (map form_of (offered s t l)) o k → spent (takes_by o.0) xs + takes k ≤ taken_in s t o.0
-asked_takes s completes t xs l o k a h asked =
-    let q = ask_served s t l (map form_of (offered s t l)) o k (offered_is_served s completes t xs l a h) asked in
+pub asked_takes_now : (s : Scene) (completes : ℕ → ℕ → Bool) (t : ℕ) (xs : List Item) (l : Local) (o : ObjectNo) (k : Ask) → IsAskable s → after_items s completes t (local_at_start s t) xs ≡ Some l → IsAskOf (map form_of (offered s t (settled_local l))) o k → spent (takes_by o.0) xs + takes k ≤ taken_in s t o.0
+asked_takes_now s completes t xs l o k a h asked =
+    let q = ask_served s t (settled_local l) (map form_of (offered s t (settled_local l))) o k (offered_now_is_served s completes t xs l a h) asked in
     let le = shares_suffice s completes t xs l a h q.offer in
     subst (λ (j : Ask). spent (takes_by o.0) xs + takes j ≤ taken_in s t o.0) q.asked
     (subst (λ (p : ObjectNo). spent (takes_by p.0) xs + takes q.offer.ask ≤ taken_in s t p.0) q.object le)

@@ -1,5 +1,5 @@
 -- The forms of an ask that is served are those of this ask alone.
-use Rattle.std.proofs.Common.{◌≡◌, ℕ, zero, suc, ℤ, pos, true, false, List, [], ◌∷◌, ◌++◌, Option, Some, None, refl, sym, ◌∙◌, subst, arith}
+use Rattle.std.proofs.Common.{◌≡◌, ℕ, zero, suc, ℤ, pos, Bool, true, false, List, [], ◌∷◌, ◌++◌, Option, Some, None, refl, sym, ◌∙◌, subst, arith}
 use Rattle.cx_names.specs.declared.ObjectNo.{ObjectNo}
 use Rattle.cx_machine.specs.declared.kind.Kind.TheVariants as kinds
 use Rattle.cx_machine.specs.declared.kind.Op.{Op}
@@ -12,7 +12,7 @@ use Rattle.cx_items.specs.declared.form.Form.{Form}
 use Rattle.cx_items.specs.declared.form.Form.TheVariants as forms
 use Rattle.cx_items.specs.Memory.{Memory, of}
 use Rattle.cx_asks.specs.declared.ask.Ask.{Ask}
-use Rattle.cx_asks.specs.Asks.{asks_mutex, asks_recursive, asks_semaphore, asks_latch, serves}
+use Rattle.cx_asks.specs.Asks.{asks_mutex, asks_recursive, asks_semaphore, asks_latch, asks_shared, asks_once, asks_barrier, serves}
 use Rattle.cx_asks.specs.Forms.{AreAlike, IsAskOf, change_forms, look_forms, asked_forms}
 use Rattle.cx_asks.specs.Offers.{takes, IsServed}
 
@@ -54,11 +54,36 @@ latch_ask o count share None (Some ops.Wait) (pos zero) (pos zero) h = (refl, re
 latch_ask o count share None (Some ops.TryWait) (pos zero) (pos zero) h = (refl, refl, alike o (pos 0) (pos 0), refl)
 latch_ask o count share _ _ _ _ h = absurd h
 
+shared_ask : (o : ObjectNo) (n : ℕ) (reads : Bool) (c k : Option Op) (a b : ℤ) → asks_shared n reads c k a b → IsAskOf (change_forms kinds.Shared o c a b ++ look_forms kinds.Shared o k a b) o (ask c k a b)
+shared_ask o zero false (Some ops.Lock) None (pos zero) (pos zero) h = (refl, refl)
+shared_ask o zero false (Some ops.TryLock) (Some ops.TryLock) (pos zero) (pos zero) h = (refl, refl, alike o (pos 0) (pos 0))
+shared_ask o zero false (Some ops.LockShared) None (pos zero) (pos zero) h = (refl, refl)
+shared_ask o zero false (Some ops.TryLockShared) (Some ops.TryLockShared) (pos zero) (pos zero) h = (refl, refl, alike o (pos 0) (pos 0))
+shared_ask o (suc n) reads (Some ops.Unlock) None (pos zero) (pos zero) h = (refl, refl)
+shared_ask o n true (Some ops.UnlockShared) None (pos zero) (pos zero) h = (refl, refl)
+shared_ask o _ _ _ _ _ _ h = absurd h
+
+once_ask : (o : ObjectNo) (c k : Option Op) (a b : ℤ) → asks_once c k a b → IsAskOf (change_forms kinds.Once o c a b ++ look_forms kinds.Once o k a b) o (ask c k a b)
+once_ask o (Some ops.Begin) (Some ops.Passive) (pos zero) (pos zero) h = (refl, refl, alike o (pos 0) (pos 0))
+once_ask o (Some ops.Finish) None (pos zero) (pos zero) h = (refl, refl)
+once_ask o (Some ops.Fail) None (pos e) (pos zero) h = (refl, refl)
+once_ask o _ _ _ _ h = absurd h
+
+barrier_ask : (o : ObjectNo) (count : ℕ) (c k : Option Op) (a b : ℤ) → asks_barrier c k a b → IsAskOf (change_forms (kinds.Barrier count) o c a b ++ look_forms (kinds.Barrier count) o k a b) o (ask c k a b)
+barrier_ask o count (Some ops.Arrive) (Some ops.Arrive) (pos n) (pos zero) h = (refl, refl, alike o (pos n) (pos 0))
+barrier_ask o count (Some ops.Drop) (Some ops.Drop) (pos zero) (pos zero) h = (refl, refl, alike o (pos 0) (pos 0))
+barrier_ask o count (Some ops.Complete) None (pos zero) (pos zero) h = (refl, refl)
+barrier_ask o count None (Some ops.Wait) phase (pos zero) h = (refl, refl)
+barrier_ask o count _ _ _ _ h = absurd h
+
 any_ask : (d : Object) (o : ObjectNo) (h : Kept) (share : ℕ) (k : Ask) → serves (kind_of d) h share k → IsAskOf (asked_forms (kind_of d) o k) o k
 any_ask (objects.Mutex numbers) o h share k may = plain_ask o numbers h.levels k.change k.look k.a k.b may
 any_ask objects.Recursive o h share k may = recursive_ask o 0 h.levels k.change k.look k.a k.b may
 any_ask (objects.Semaphore count max) o h share k may = semaphore_ask o count max k.change k.look k.a k.b may
 any_ask (objects.Latch count) o h share k may = latch_ask o count share k.change k.look k.a k.b may
+any_ask objects.Shared o h share k may = shared_ask o h.levels h.reads k.change k.look k.a k.b may
+any_ask (objects.Barrier count small) o h share k may = barrier_ask o count k.change k.look k.a k.b may
+any_ask objects.Once o h share k may = once_ask o k.change k.look k.a k.b may
 any_ask _ o h share k may = absurd may
 
 pub served_asks : (s : Scene) (m : Memory) (fs : List Form) (q : IsServed s m fs) → IsAskOf fs q.object q.ask

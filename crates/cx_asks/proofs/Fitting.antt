@@ -5,6 +5,7 @@ use Rattle.std.proofs.lemmas.Bool.Decides.{Decides-int_eq}
 use Rattle.cx_names.specs.declared.ThreadNo.{ThreadNo}
 use Rattle.cx_names.specs.declared.ObjectNo.{ObjectNo}
 use Rattle.cx_names.specs.declared.Reply.{Reply}
+use Rattle.cx_names.specs.declared.Reply.TheVariants as replies
 use Rattle.cx_names.specs.Replies.{int_eq, reply_eq}
 use Rattle.cx_names.proofs.Equal.{replies_are_equal}
 use Rattle.cx_machine.specs.declared.kind.Op.{Op}
@@ -15,7 +16,7 @@ use Rattle.cx_items.specs.declared.item.Item.{Item}
 use Rattle.cx_items.specs.declared.item.Item.TheVariants as items
 use Rattle.cx_items.specs.declared.form.Form.{Form}
 use Rattle.cx_items.specs.declared.form.Form.TheVariants.{Change, Look as ALook}
-use Rattle.cx_items.specs.declared.form.Wanted.TheVariants.{Just}
+use Rattle.cx_items.specs.declared.form.Wanted.TheVariants.{Just, ANumber}
 use Rattle.cx_items.specs.Form.{fits, op_number}
 use Rattle.cx_history.specs.IsRecord.{is_change, is_look, is_item}
 use Rattle.cx_asks.specs.Forms.{is_of_one}
@@ -49,6 +50,13 @@ second_fits s f g x r e = go (is_some (fits s f x)) (first_fits s g [] x r e)
 
 pub first_change : (s : Scene) (fs : List Form) (o : ObjectNo) (by : ThreadNo) (op : Op) (a : ℤ) (r : Reply) (n : ℕ) → is_of_one s (Change o op a (pos 0) (Just r) ∷ fs) (items.Change o n (change by op a (pos 0) r)) ≡ true
 first_change s fs o by op a r n = first_fits s (Change o op a (pos 0) (Just r)) fs (items.Change o n (change by op a (pos 0) r)) r (change_fits s o by op a r n)
+
+number_fits : (s : Scene) (o : ObjectNo) (by : ThreadNo) (op : Op) (a p : ℤ) (n : ℕ) → fits s (Change o op a (pos 0) ANumber) (items.Change o n (change by op a (pos 0) (replies.Number p))) ≡ Some (replies.Number p)
+number_fits s o by op a p n = rw (same o.0, same (op_number op), int_same a) refl
+
+-- any number answers where one is wanted
+pub first_number : (s : Scene) (fs : List Form) (o : ObjectNo) (by : ThreadNo) (op : Op) (a p : ℤ) (n : ℕ) → is_of_one s (Change o op a (pos 0) ANumber ∷ fs) (items.Change o n (change by op a (pos 0) (replies.Number p))) ≡ true
+first_number s fs o by op a p n = first_fits s (Change o op a (pos 0) ANumber) fs (items.Change o n (change by op a (pos 0) (replies.Number p))) (replies.Number p) (number_fits s o by op a p n)
 
 pub first_look : (s : Scene) (fs : List Form) (o : ObjectNo) (by : ThreadNo) (op : Op) (a : ℤ) (r : Reply) (k : ℕ) → is_of_one s (ALook o op a (pos 0) (Just r) ∷ fs) (items.Look o (look_of by op a (pos 0) r k)) ≡ true
 first_look s fs o by op a r k = first_fits s (ALook o op a (pos 0) (Just r)) fs (items.Look o (look_of by op a (pos 0) r k)) r (look_fits s o by op a r k)

@@ -4,11 +4,14 @@ use Rattle.std.specs.Prelude.{nat_le}
 use Rattle.std.proofs.lemmas.Bool.{cases_Bool, leb-true, leb-false}
 use Rattle.cx_names.specs.declared.ObjectNo.{ObjectNo}
 use Rattle.cx_names.specs.declared.Reply.{Reply}
+use Rattle.cx_names.specs.declared.Reply.TheVariants as replies
 use Rattle.cx_machine.specs.declared.kind.Kind.TheVariants as kinds
 use Rattle.cx_machine.specs.declared.kind.Op.{Op}
 use Rattle.cx_machine.specs.declared.kind.Op.TheVariants as ops
 use Rattle.cx_scene.specs.declared.declared.Object.{Object}
 use Rattle.cx_scene.specs.declared.declared.Object.TheVariants as objects
+use Rattle.cx_scene.specs.declared.declared.Small.{Small}
+use Rattle.cx_scene.specs.declared.declared.Small.TheVariants as smalls
 use Rattle.cx_scene.specs.declared.call.Call.{Call}
 use Rattle.cx_scene.specs.declared.call.Call.TheVariants as calls
 use Rattle.cx_scene.specs.Scene.{Scene, kind_of, body_of}
@@ -17,22 +20,22 @@ use Rattle.cx_items.specs.declared.item.Item.{Item}
 use Rattle.cx_items.specs.declared.item.Item.TheVariants as items
 use Rattle.cx_items.specs.declared.form.Form.{Form}
 use Rattle.cx_items.specs.declared.form.Form.TheVariants.{Change, Look, Does, Says}
-use Rattle.cx_items.specs.Form.{fits}
+use Rattle.cx_items.specs.Form.{change, fits}
 use Rattle.cx_items.specs.Memory.{Memory, of}
 use Rattle.cx_items.specs.Calls.{refusal, tasks, opened}
-use Rattle.cx_items.specs.Next.{Local, offered, local_at_start}
+use Rattle.cx_items.specs.Next.{Local, offered, settled_local, local_at_start}
 use Rattle.cx_items.specs.Steps.{form_of}
 use Rattle.cx_history.specs.Follows.{after_items}
 use Rattle.cx_asks.specs.declared.ask.Ask.{Ask}
-use Rattle.cx_asks.specs.Asks.{asks_mutex, asks_recursive, asks_semaphore, asks_latch, serves}
+use Rattle.cx_asks.specs.Asks.{asks_mutex, asks_recursive, asks_semaphore, asks_latch, asks_shared, asks_once, asks_barrier, serves}
 use Rattle.cx_asks.specs.Forms.{change_forms, look_forms, asked_forms}
-use Rattle.cx_asks.specs.Scenes.{takes_of, takings, taken_in, taken_below, count_at, left_with_main, is_fit, SharesAre, IsAskable}
+use Rattle.cx_asks.specs.Scenes.{takes_of, takings, taken_in, taken_below, count_at, left_with_main, is_completion_now, is_fit, SharesAre, IsAskable}
 use Rattle.cx_asks.specs.Offers.{counted_by, takes, IsServed}
 use Rattle.cx_asks.specs.Spent.{takes_by, spent}
 use Rattle.cx_asks.proofs.Forms.{is_begin, IsAlike, form_of_item, form_turns}
 use Rattle.cx_asks.proofs.Offering.{stands_first, stands_after}
-use Rattle.cx_asks.proofs.Weighing.{Measure, Spends, IsMeasure, locks_cost, agenda_cost, unlock_cost, calls_cost, cost, AllWithin, offered_within, spent_in_all}
-use Rattle.cx_asks.proofs.Ending.{ends_cost, repeated_none}
+use Rattle.cx_asks.proofs.Weighing.{Measure, Spends, IsMeasure, locks_cost, agenda_cost, small_cost, calls_cost, cost, AllWithin, settled_within, spent_in_all}
+use Rattle.cx_asks.proofs.Ending.{ends_cost, gives_nothing}
 
 module _ (o : ℕ) where
   abbrev pub form_takes : Form → ℕ
@@ -40,7 +43,7 @@ module _ (o : ℕ) where
   form_takes _ = 0
 
   abbrev pub takes_so_much : Measure
-  takes_so_much = record { form = form_takes; item = takes_by o; later = λ ks. 0; turn = 0; call = takes_of o }
+  takes_so_much = record { form = form_takes; item = takes_by o; later = λ ks. 0; turn = 0; completion = 0; call = takes_of o }
 
   abbrev zero_if : Bool → ℕ
   zero_if b = if b then 0 else 0
@@ -80,6 +83,9 @@ module _ (o : ℕ) where
   two_later : (a l : ℕ) → a ≡ 0 → (a + (0 + 0)) + l ≤ 0 + l
   two_later a l h = omega (arith, h)
 
+  both_later : (a b l : ℕ) → a ≡ 0 → b ≡ 0 → (a + b) + l ≤ 0 + l
+  both_later a b l h k = omega (arith, h, k)
+
   locks_later : (a l : ℕ) → a ≡ 0 → a + l ≤ 0 + l
   locks_later a l h = omega (arith, h)
 
@@ -101,6 +107,9 @@ module _ (o : ℕ) where
   opens_tasks s t n m (calls.TryLock q) later h = two_later (zero_if (q.0 == o)) later (nothing_if (q.0 == o))
   opens_tasks s t n m (calls.TryLockRecursive q) later h = two_later (zero_if (q.0 == o)) later (nothing_if (q.0 == o))
   opens_tasks s t n m (calls.Unlock q) later h = only_later (zero_if (q.0 == o)) later (nothing_if (q.0 == o))
+  opens_tasks s t n m (calls.LockShared q) later h = only_later (zero_if (q.0 == o)) later (nothing_if (q.0 == o))
+  opens_tasks s t n m (calls.TryLockShared q) later h = two_later (zero_if (q.0 == o)) later (nothing_if (q.0 == o))
+  opens_tasks s t n m (calls.UnlockShared q) later h = only_later (zero_if (q.0 == o)) later (nothing_if (q.0 == o))
   opens_tasks s t n m (calls.LockAll os) later h = locks_later (locks_cost takes_so_much os) later (no_locks os)
   opens_tasks s t n m (calls.TryLockAll os) later h = tries_later (locks_cost takes_so_much os) later (no_locks os)
   opens_tasks s t n m (calls.Release q k) later h = two_later (zero_if (q.0 == o)) later (nothing_if (q.0 == o))
@@ -110,6 +119,12 @@ module _ (o : ℕ) where
   opens_tasks s t n m (calls.WaitLatch l) later h = later_alone 0 later
   opens_tasks s t n m (calls.TryWait l) later h = later_alone 0 later
   opens_tasks s t n m (calls.ArriveAndWaitLatch l) later h = counts_and_waits (if l.0 == o then 1 else 0) later
+  opens_tasks s t n m (calls.Arrive b k) later h = only_later (zero_if (b.0 == o)) later (nothing_if (b.0 == o))
+  opens_tasks s t n m (calls.WaitBarrier b) later h = later_alone 0 later
+  opens_tasks s t n m (calls.ArriveAndWait b) later h = only_later (zero_if (b.0 == o)) later (nothing_if (b.0 == o))
+  opens_tasks s t n m (calls.ArriveAndDrop b) later h = only_later (zero_if (b.0 == o)) later (nothing_if (b.0 == o))
+  opens_tasks s t n m (calls.CallOnceReturn q) later h = both_later (zero_if (q.0 == o)) (zero_if (q.0 == o)) later (nothing_if (q.0 == o)) (nothing_if (q.0 == o))
+  opens_tasks s t n m (calls.CallOnceThrow q e) later h = both_later (zero_if (q.0 == o)) (zero_if (q.0 == o)) later (nothing_if (q.0 == o)) (nothing_if (q.0 == o))
   opens_tasks s t n m (calls.Start u) later h = later_alone 0 later
   opens_tasks s t n m (calls.Join u) later h = later_alone 0 later
   opens_tasks s t n m _ later h = cc
@@ -121,8 +136,17 @@ module _ (o : ℕ) where
       go None e = rw e (opens_tasks s t n m c later h)
       go (Some r) e = rw e (later_alone (takes_of o c) later)
 
-  none_falls : (r : ℕ) → r ≡ 0 → r + 0 ≤ 0
-  none_falls r h = omega (arith, h)
+  -- a completion takes nothing from a latch
+  completes_free : (b : ObjectNo) (x : Option Small) → is_completion_now x ≡ true → small_cost takes_so_much x + form_takes (change b ops.Complete 0 replies.Ok) ≤ 0
+  completes_free b None now = none_done (zero_if (b.0 == o)) (nothing_if (b.0 == o))
+    where
+      none_done : (a : ℕ) → a ≡ 0 → 0 + a ≤ 0
+      none_done a h = omega (arith, h)
+  completes_free b (Some (smalls.Release q n)) now = all_done (zero_if (q.0 == o)) (zero_if (b.0 == o)) (nothing_if (q.0 == o)) (nothing_if (b.0 == o))
+    where
+      all_done : (a c : ℕ) → a ≡ 0 → c ≡ 0 → (a + (0 + 0)) + c ≤ 0
+      all_done a c h k = omega (arith, h, k)
+  completes_free b _ now = cc
 
   none_or_less : (n : ℕ) → n ≡ 0 → n ≤ 0
   none_or_less n h = omega (arith, h)
@@ -131,11 +155,13 @@ module _ (o : ℕ) where
   takes_measure s a = record {
     spends = spends_taken s;
     locks = λ q. omega arith;
-    looks = λ q. refl;
+    looks = λ q op a b wanted. refl;
+    completes = completes_free;
+    alike = λ m m' k. omega arith;
     says = λ r. refl;
     turn = λ os once. none_or_less (locks_cost takes_so_much os) (no_locks os);
     opens = opens_taken s;
-    ends = λ t m later k. ends_cost takes_so_much later s t m (λ i. 0) a k (λ i. none_falls _ (repeated_none _ (unlock_cost takes_so_much i) (nothing_if (i == o))));
+    ends = λ t m later k. ends_cost takes_so_much later s t m (λ i. 0) a k (λ i. gives_nothing takes_so_much m i (nothing_if (i == o)) (nothing_if (i == o)));
   }
 
   all_calls : (cs : List Call) → calls_cost takes_so_much cs ≡ takings o cs
@@ -165,6 +191,28 @@ semaphore_takes (Some ops.Acquire) None (pos zero) (pos zero) h = refl
 semaphore_takes (Some ops.TryAcquire) (Some ops.TryAcquire) (pos zero) (pos zero) h = refl
 semaphore_takes _ _ _ _ h = absurd h
 
+shared_takes : (n : ℕ) (reads : Bool) (c k : Option Op) (a b : ℤ) → asks_shared n reads c k a b → counted_by c a ≡ 0
+shared_takes zero false (Some ops.Lock) None (pos zero) (pos zero) h = refl
+shared_takes zero false (Some ops.TryLock) (Some ops.TryLock) (pos zero) (pos zero) h = refl
+shared_takes zero false (Some ops.LockShared) None (pos zero) (pos zero) h = refl
+shared_takes zero false (Some ops.TryLockShared) (Some ops.TryLockShared) (pos zero) (pos zero) h = refl
+shared_takes (suc n) reads (Some ops.Unlock) None (pos zero) (pos zero) h = refl
+shared_takes n true (Some ops.UnlockShared) None (pos zero) (pos zero) h = refl
+shared_takes _ _ _ _ _ _ h = absurd h
+
+once_takes : (c k : Option Op) (a b : ℤ) → asks_once c k a b → counted_by c a ≡ 0
+once_takes (Some ops.Begin) (Some ops.Passive) (pos zero) (pos zero) h = refl
+once_takes (Some ops.Finish) None (pos zero) (pos zero) h = refl
+once_takes (Some ops.Fail) None (pos e) (pos zero) h = refl
+once_takes _ _ _ _ h = absurd h
+
+barrier_takes : (c k : Option Op) (a b : ℤ) → asks_barrier c k a b → counted_by c a ≡ 0
+barrier_takes (Some ops.Arrive) (Some ops.Arrive) (pos n) (pos zero) h = refl
+barrier_takes (Some ops.Drop) (Some ops.Drop) (pos zero) (pos zero) h = refl
+barrier_takes (Some ops.Complete) None (pos zero) (pos zero) h = refl
+barrier_takes None (Some ops.Wait) phase (pos zero) h = refl
+barrier_takes _ _ _ _ h = absurd h
+
 none_within : (a n : ℕ) → a ≡ 0 → a ≤ n
 none_within a n h = omega (arith, h)
 
@@ -179,19 +227,22 @@ any_takes (objects.Mutex numbers) q h share n k ask all = none_within (takes k) 
 any_takes objects.Recursive q h share n k ask all = none_within (takes k) n (recursive_takes h.levels k.change k.look k.a k.b ask)
 any_takes (objects.Semaphore count max) q h share n k ask all = none_within (takes k) n (semaphore_takes k.change k.look k.a k.b ask)
 any_takes (objects.Latch count) q h share n k ask all = latch_takes q count share n k.change k.look k.a k.b ask all
+any_takes objects.Shared q h share n k ask all = none_within (takes k) n (shared_takes h.levels h.reads k.change k.look k.a k.b ask)
+any_takes (objects.Barrier count small) q h share n k ask all = none_within (takes k) n (barrier_takes k.change k.look k.a k.b ask)
+any_takes objects.Once q h share n k ask all = none_within (takes k) n (once_takes k.change k.look k.a k.b ask)
 any_takes _ q h share n k ask all = absurd ask
 
 in_all : (c k sp whole cs : ℕ) → k ≤ c → c + sp ≤ 0 + (0 * 16384 + cs) → cs ≡ whole → sp + k ≤ whole
 in_all c k sp whole cs h e is = omega (arith, h, e, is)
 
 -- what an offered ask takes, with what was taken before, is within what the text takes
-pub shares_suffice : (s : Scene) (completes : ℕ → ℕ → Bool) (t : ℕ) (xs : List Item) (l : Local) → IsAskable s → after_items s completes t (local_at_start s t) xs ≡ Some l → (q : IsServed s l.memory (map form_of (offered s t l))) → spent (takes_by q.object.0) xs + takes q.ask ≤ taken_in s t q.object.0
+pub shares_suffice : (s : Scene) (completes : ℕ → ℕ → Bool) (t : ℕ) (xs : List Item) (l : Local) → IsAskable s → after_items s completes t (local_at_start s t) xs ≡ Some l → (q : IsServed s l.memory (map form_of (offered s t (settled_local l)))) → spent (takes_by q.object.0) xs + takes q.ask ≤ taken_in s t q.object.0
 shares_suffice s completes t xs l a h q =
     let o = q.object.0 in
     let is = takes_measure o s a in
     let stands = stands_after s completes t (local_at_start s t) l xs a (stands_first s t a) h in
     let all = spent_in_all (takes_so_much o) s is completes t l xs a h in
-    let within = offered_within (takes_so_much o) s is t l stands in
+    let within = settled_within (takes_so_much o) s is t l stands in
     let here : AllWithin (takes_so_much o) (cost (takes_so_much o) l) (asked_forms (kind_of q.declared) q.object q.ask) = subst (λ (fs : List Form). AllWithin (takes_so_much o) (cost (takes_so_much o) l) fs) q.forms within in
     let ask = q.served (takes q.ask) (omega arith) in
     in_all (cost (takes_so_much o) l) (takes q.ask) (spent (takes_by o) xs) (taken_in s t o) (calls_cost (takes_so_much o) (body_of s t)) (any_takes q.declared q.object (of l.memory q.object) (takes q.ask) (cost (takes_so_much o) l) q.ask ask here) all (all_calls o (body_of s t))

@@ -4,6 +4,9 @@ pub mod Replies
 pub mod Forms
 pub mod Kept
 pub mod Served
+pub mod Sharing
+pub mod Calling
+pub mod Arriving
 pub mod Standing
 pub mod Calls
 pub mod Going

@@ -16,12 +16,12 @@ use Rattle.cx_items.specs.declared.form.Form.TheVariants.{Change, Look}
 use Rattle.cx_items.specs.Form.{change, look}
 use Rattle.cx_items.specs.Memory.{Memory, of}
 use Rattle.cx_asks.specs.declared.ask.Ask.{Ask}
-use Rattle.cx_asks.specs.Asks.{asks_mutex, asks_recursive, serves}
+use Rattle.cx_asks.specs.Asks.{asks_mutex, asks_recursive, asks_shared, serves}
 use Rattle.cx_asks.specs.Forms.{change_alone, look_alone, either_of, asked_forms}
-use Rattle.cx_asks.specs.Scenes.{is_plain, is_recursive, is_lockable, is_semaphore, is_latch}
+use Rattle.cx_asks.specs.Scenes.{is_plain, is_recursive, is_shared, is_lockable, is_semaphore, is_latch}
 use Rattle.cx_asks.specs.Offers.{takes, IsServed, names_nobody}
 use Rattle.cx_asks.proofs.Forms.{form_after, is_word_of}
-use Rattle.cx_asks.proofs.Kept.{levels, acted, gains_lock, gains_try, loses_unlock, keeps_same, IsKept, kept_gains, kept_loses, kept_keeps}
+use Rattle.cx_asks.proofs.Kept.{levels, reads, acted, gains_lock, gains_try, loses_unlock, keeps_same, IsKept, kept_gains, kept_loses, kept_keeps}
 
 -- ---- what is declared
 
@@ -78,6 +78,10 @@ nobody_is q r h e = subst (λ (x : Reply). names_nobody x ≡ true) ((replies_ar
 is_there : (s : Scene) (m : Memory) (o : ObjectNo) (d : Object) → slice_get s.objects o.0 ≡ Some d → IsKept s m → o.0 < length m.kept
 is_there s m o d h k = let under = slice_get_within s.objects o.0 d h in let count = k.count in omega (arith, under, count)
 
+pub shared_lockable : (d : Option Object) → is_shared d ≡ true → is_lockable d ≡ true
+shared_lockable (Some objects.Shared) h = refl
+shared_lockable _ h = cc
+
 lockable_within : (s : Scene) (o : ObjectNo) (d : Option Object) → slice_get s.objects o.0 ≡ d → is_lockable d ≡ true → o.0 < length s.objects
 lockable_within s o None e h = cc
 lockable_within s o (Some d) e h = slice_get_within s.objects o.0 d e
@@ -98,6 +102,10 @@ module _ (s : Scene) (m : Memory) (o : ObjectNo) where
   pub sound_look : (op : Op) (a : ℕ) (q : Reply) → names_nobody q ≡ true → IsSound s m (look o op a q)
   sound_look op a q h = record { act = refl; keeps = λ k. k; nobody = λ r e. nobody_is q r h e }
 
+  -- a change that leaves the thread with what it may keep
+  pub sound_change : (op : Op) (a : ℕ) (q : Reply) → names_nobody q ≡ true → (IsKept s m → IsKept s (form_after s (change o op a q) m)) → IsSound s m (change o op a q)
+  sound_change op a q h keeps = record { act = refl; keeps = keeps; nobody = λ r e. nobody_is q r h e }
+
   sound_release : (n : ℕ) → IsSound s m (change o ops.Release n replies.Ok)
   sound_release n = record { act = refl; keeps = λ k. kept_keeps s m (acted m o ops.Release) (keeps_same m o) k; nobody = λ r e. nobody_is replies.Ok r refl e }
 
@@ -112,10 +120,10 @@ module _ (s : Scene) (m : Memory) (o : ObjectNo) where
 
   -- ---- asks
 
-  abbrev Serves : Ask → Object → Type 0
+  abbrev pub Serves : Ask → Object → Type 0
   Serves k d = (share : ℕ) → takes k ≤ share → serves (kind_of d) (of m o) share k
 
-  served : (fs : List Form) (k : Ask) (d : Object) → slice_get s.objects o.0 ≡ Some d → fs ≡ asked_forms (kind_of d) o k → Serves k d → IsServed s m fs
+  pub served : (fs : List Form) (k : Ask) (d : Object) → slice_get s.objects o.0 ≡ Some d → fs ≡ asked_forms (kind_of d) o k → Serves k d → IsServed s m fs
   served fs k d there is may = record { object = o; ask = k; declared = d; there = there; forms = is; served = may }
 
   pub plain_lock : is_plain (slice_get s.objects o.0) ≡ true → levels m o.0 ≡ 0 → Offered s m (change o ops.Lock 0 replies.Ok ∷ [])
@@ -151,6 +159,7 @@ module _ (s : Scene) (m : Memory) (o : ObjectNo) where
   unlock_served : (n : ℕ) (d : Option Object) → slice_get s.objects o.0 ≡ d → is_lockable d ≡ true → levels m o.0 ≡ suc n → IsServed s m (change o ops.Unlock 0 replies.Ok ∷ [])
   unlock_served n (Some (objects.Mutex numbers)) there h own = served (change o ops.Unlock 0 replies.Ok ∷ []) (change_alone ops.Unlock (pos 0) (pos 0)) (objects.Mutex numbers) there refl (λ share le. subst (λ (k : ℕ). asks_mutex k (Some ops.Unlock) None (pos 0) (pos 0)) (sym own) tt)
   unlock_served n (Some objects.Recursive) there h own = served (change o ops.Unlock 0 replies.Ok ∷ []) (change_alone ops.Unlock (pos 0) (pos 0)) objects.Recursive there refl (λ share le. subst (λ (k : ℕ). asks_recursive k (Some ops.Unlock) None (pos 0) (pos 0)) (sym own) tt)
+  unlock_served n (Some objects.Shared) there h own = served (change o ops.Unlock 0 replies.Ok ∷ []) (change_alone ops.Unlock (pos 0) (pos 0)) objects.Shared there refl (λ share le. subst (λ (k : ℕ). asks_shared k (reads m o.0) (Some ops.Unlock) None (pos 0) (pos 0)) (sym own) tt)
   unlock_served n _ there h own = cc
 
   pub unlock : (n : ℕ) → is_lockable (slice_get s.objects o.0) ≡ true → levels m o.0 ≡ suc n → Offered s m (change o ops.Unlock 0 replies.Ok ∷ [])

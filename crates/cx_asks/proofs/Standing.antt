@@ -17,15 +17,16 @@ use Rattle.cx_items.specs.declared.form.Form.TheVariants.{Does}
 use Rattle.cx_items.specs.declared.form.Forms.{Forms}
 use Rattle.cx_items.specs.declared.form.Forms.TheVariants.{One, Two}
 use Rattle.cx_items.specs.declared.task.Task.{Task}
-use Rattle.cx_items.specs.declared.task.Task.TheVariants.{Makes, Answers, Says, LocksFrom, LocksRest, TriesAll}
+use Rattle.cx_items.specs.declared.task.Task.TheVariants.{Makes, Answers, Says, Arrives, ArrivesAndWaits, ArrivesAndDrops, Completes, CallsOnce, LocksFrom, LocksRest, TriesAll}
 use Rattle.cx_items.specs.Form.{forms_in}
 use Rattle.cx_items.specs.Memory.{Memory}
 use Rattle.cx_items.specs.Next.{mutex_at, unlocks}
-use Rattle.cx_asks.specs.Scenes.{is_plain}
+use Rattle.cx_asks.specs.Scenes.{is_plain, is_once}
 use Rattle.cx_asks.specs.Offers.{names_nobody, MayStart, MayJoin}
 use Rattle.cx_asks.proofs.Forms.{form_after}
 use Rattle.cx_asks.proofs.Kept.{levels, acted, Gains, loses_unlock, IsKept, kept_loses}
 use Rattle.cx_asks.proofs.Served.{Offered, plain_lockable, kept_within, unlock}
+use Rattle.cx_asks.proofs.Arriving.{IsBarrier}
 
 -- ---- locks of several mutexes
 
@@ -44,12 +45,23 @@ pub data Answered (s : Scene) (t : ℕ) (m : Memory) : Forms → Type 0 where
   starts : (u : ThreadNo) → MayStart s t u → Answered s t m (Two (Does (controls.Start u true)) (Does (controls.Start u false)))
   joins : (u : ThreadNo) → MayJoin s t m u → Answered s t m (One (Does (controls.Join u)))
 
+-- something other than a completion is next
+abbrev pub is_more : List Task → Bool
+is_more [] = false
+is_more (Completes b must ∷ ts) = false
+is_more (task ∷ ts) = true
+
 -- each task is served by what is kept once those before it are done; where no call is left, they may come to no reply
 abbrev pub Good : Scene → ℕ → Bool → Memory → List Task → Type 0
 Good s t last m [] = last ≡ true
 Good s t last m (Makes (One f) ∷ ts) = Offered s m (f ∷ []) × Good s t last (form_after s f m) ts
 Good s t last m (Answers fs ∷ ts) = Answered s t m fs
 Good s t last m (Says r ∷ ts) = names_nobody r ≡ true
+Good s t last m (Arrives b n ∷ ts) = IsBarrier s b × (1 ≤ n) × (n ≤ 4096)
+Good s t last m (ArrivesAndWaits b ∷ ts) = IsBarrier s b
+Good s t last m (ArrivesAndDrops b ∷ ts) = IsBarrier s b
+Good s t last m (Completes b must ∷ ts) = IsBarrier s b × (is_more ts ≡ true) × ((n : Memory) → Good s t last n ts)
+Good s t last m (CallsOnce o f r ∷ ts) = (is_once (slice_get s.objects o.0) ≡ true) × ((n : Memory) → Offered s n (f ∷ [])) × (names_nobody r ≡ true)
 Good s t last m (LocksFrom os ∷ ts) = (1 < length os) × AreLocked s m os 0
 Good s t last m (LocksRest os k ∷ ts) = (1 < length os) × AreLocked s m os k
 Good s t last m (TriesAll os k ∷ ts) = AreLocked s m os k

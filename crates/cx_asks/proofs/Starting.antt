@@ -1,8 +1,13 @@
 -- A thread that may be started was not started before.
 use Rattle.std.proofs.Common.{◌≡◌, ℕ, ◌+◌, ◌*◌, ◌≤◌, ◌==◌, ◌||◌, Bool, true, false, List, [], ◌∷◌, map, Option, Some, None, refl, sym, ap, subst, arith, eq-eqb}
 use Rattle.cx_names.specs.declared.ThreadNo.{ThreadNo}
+use Rattle.cx_names.specs.declared.ObjectNo.{ObjectNo}
 use Rattle.cx_names.specs.declared.Reply.{Reply}
+use Rattle.cx_names.specs.declared.Reply.TheVariants as replies
+use Rattle.cx_machine.specs.declared.kind.Op.TheVariants as ops
 use Rattle.cx_machine.specs.Meaning.{bit}
+use Rattle.cx_scene.specs.declared.declared.Small.{Small}
+use Rattle.cx_scene.specs.declared.declared.Small.TheVariants as smalls
 use Rattle.cx_scene.specs.declared.call.Call.{Call}
 use Rattle.cx_scene.specs.declared.call.Call.TheVariants as calls
 use Rattle.cx_scene.specs.Scene.{Scene, body_of}
@@ -12,18 +17,18 @@ use Rattle.cx_items.specs.declared.item.Control.{Control}
 use Rattle.cx_items.specs.declared.item.Control.TheVariants as controls
 use Rattle.cx_items.specs.declared.form.Form.{Form}
 use Rattle.cx_items.specs.declared.form.Form.TheVariants.{Change, Look, Does, Says}
-use Rattle.cx_items.specs.Form.{fits}
+use Rattle.cx_items.specs.Form.{change, fits}
 use Rattle.cx_items.specs.Memory.{Memory}
 use Rattle.cx_items.specs.Calls.{refusal, tasks, opened}
-use Rattle.cx_items.specs.Next.{Local, offered, local_at_start}
+use Rattle.cx_items.specs.Next.{Local, offered, settled_local, local_at_start}
 use Rattle.cx_items.specs.Steps.{form_of}
 use Rattle.cx_history.specs.Follows.{starts, any_starts, after_items}
-use Rattle.cx_asks.specs.Scenes.{starts_of, startings, is_fit, IsAskable}
+use Rattle.cx_asks.specs.Scenes.{starts_of, startings, is_completion_now, is_fit, IsAskable}
 use Rattle.cx_asks.specs.Spent.{starts_by, spent}
 use Rattle.cx_asks.proofs.Forms.{is_begin, IsAlike, form_of_item, form_turns}
 use Rattle.cx_asks.proofs.Offering.{stands_first, stands_after}
-use Rattle.cx_asks.proofs.Weighing.{Measure, Spends, IsMeasure, locks_cost, agenda_cost, calls_cost, cost, AllWithin, offered_within, spent_in_all}
-use Rattle.cx_asks.proofs.Ending.{ends_cost, repeated_none}
+use Rattle.cx_asks.proofs.Weighing.{Measure, Spends, IsMeasure, locks_cost, agenda_cost, small_cost, calls_cost, cost, AllWithin, settled_within, spent_in_all}
+use Rattle.cx_asks.proofs.Ending.{ends_cost, gives_nothing}
 
 module _ (u : ℕ) where
   abbrev pub form_starts : Form → ℕ
@@ -31,7 +36,7 @@ module _ (u : ℕ) where
   form_starts _ = 0
 
   abbrev pub starts_so_often : Measure
-  starts_so_often = record { form = form_starts; item = starts_by u; later = λ ks. 0; turn = 0; call = starts_of u }
+  starts_so_often = record { form = form_starts; item = starts_by u; later = λ ks. 0; turn = 0; completion = 0; call = starts_of u }
 
   same_starts : (n m : ℕ) → n ≡ m → n + 0 ≤ m
   same_starts n m h = omega (arith, h)
@@ -76,6 +81,9 @@ module _ (u : ℕ) where
   opens_tasks s t n m (calls.TryLock q) later h = later_alone 0 later
   opens_tasks s t n m (calls.TryLockRecursive q) later h = later_alone 0 later
   opens_tasks s t n m (calls.Unlock q) later h = later_alone 0 later
+  opens_tasks s t n m (calls.LockShared q) later h = later_alone 0 later
+  opens_tasks s t n m (calls.TryLockShared q) later h = later_alone 0 later
+  opens_tasks s t n m (calls.UnlockShared q) later h = later_alone 0 later
   opens_tasks s t n m (calls.LockAll os) later h = locks_later (locks_cost starts_so_often os) later (no_locks os)
   opens_tasks s t n m (calls.TryLockAll os) later h = tries_later (locks_cost starts_so_often os) later (no_locks os)
   opens_tasks s t n m (calls.Release q k) later h = later_alone 0 later
@@ -85,6 +93,12 @@ module _ (u : ℕ) where
   opens_tasks s t n m (calls.WaitLatch l) later h = later_alone 0 later
   opens_tasks s t n m (calls.TryWait l) later h = later_alone 0 later
   opens_tasks s t n m (calls.ArriveAndWaitLatch l) later h = waits_later later
+  opens_tasks s t n m (calls.Arrive b k) later h = later_alone 0 later
+  opens_tasks s t n m (calls.WaitBarrier b) later h = later_alone 0 later
+  opens_tasks s t n m (calls.ArriveAndWait b) later h = later_alone 0 later
+  opens_tasks s t n m (calls.ArriveAndDrop b) later h = later_alone 0 later
+  opens_tasks s t n m (calls.CallOnceReturn q) later h = later_alone 0 later
+  opens_tasks s t n m (calls.CallOnceThrow q e) later h = later_alone 0 later
   opens_tasks s t n m (calls.Start v) later h = starts_later (bit (v.0 == u)) later
   opens_tasks s t n m (calls.Join v) later h = later_alone 0 later
   opens_tasks s t n m _ later h = cc
@@ -96,8 +110,11 @@ module _ (u : ℕ) where
       go None e = rw e (opens_tasks s t n m c later h)
       go (Some r) e = rw e (later_alone (starts_of u c) later)
 
-  none_falls : (r : ℕ) → r ≡ 0 → r + 0 ≤ 0
-  none_falls r h = omega (arith, h)
+  -- a completion starts nothing
+  completes_free : (b : ObjectNo) (x : Option Small) → is_completion_now x ≡ true → small_cost starts_so_often x + form_starts (change b ops.Complete 0 replies.Ok) ≤ 0
+  completes_free b None now = omega arith
+  completes_free b (Some (smalls.Release q n)) now = omega arith
+  completes_free b _ now = cc
 
   none_or_less : (n : ℕ) → n ≡ 0 → n ≤ 0
   none_or_less n h = omega (arith, h)
@@ -106,11 +123,13 @@ module _ (u : ℕ) where
   starts_measure s a = record {
     spends = spends_starts s;
     locks = λ q. omega arith;
-    looks = λ q. refl;
+    looks = λ q op a b wanted. refl;
+    completes = completes_free;
+    alike = λ m m' k. omega arith;
     says = λ r. refl;
     turn = λ os once. none_or_less (locks_cost starts_so_often os) (no_locks os);
     opens = opens_starts s;
-    ends = λ t m later k. ends_cost starts_so_often later s t m (λ i. 0) a k (λ i. none_falls _ (repeated_none _ 0 refl));
+    ends = λ t m later k. ends_cost starts_so_often later s t m (λ i. 0) a k (λ i. gives_nothing starts_so_often m i refl refl);
   }
 
   pub all_calls : (cs : List Call) → calls_cost starts_so_often cs ≡ startings u cs
@@ -139,11 +158,11 @@ started_once s completes u xs l a h =
 none_before : (c f sp : ℕ) → f ≡ 1 → f ≤ c → c + sp ≤ 1 → sp ≡ 0
 none_before c f sp h e k = omega (arith, h, e, k)
 
-pub starts_once : (s : Scene) (completes : ℕ → ℕ → Bool) (xs : List Item) (l : Local) (u : ThreadNo) (fs : List Form) → IsAskable s → after_items s completes 0 (local_at_start s 0) xs ≡ Some l → map form_of (offered s 0 l) ≡ Does (controls.Start u true) ∷ fs → any_starts u.0 xs ≡ false
-starts_once s completes xs l u fs a h e =
+pub starts_once_now : (s : Scene) (completes : ℕ → ℕ → Bool) (xs : List Item) (l : Local) (u : ThreadNo) (fs : List Form) → IsAskable s → after_items s completes 0 (local_at_start s 0) xs ≡ Some l → map form_of (offered s 0 (settled_local l)) ≡ Does (controls.Start u true) ∷ fs → any_starts u.0 xs ≡ false
+starts_once_now s completes xs l u fs a h e =
     let w = starts_so_often u.0 in
     let stands = stands_after s completes 0 (local_at_start s 0) l xs a (stands_first s 0 a) h in
-    let within = offered_within w s (starts_measure u.0 s a) 0 l stands in
+    let within = settled_within w s (starts_measure u.0 s a) 0 l stands in
     let here : AllWithin w (cost w l) (Does (controls.Start u true) ∷ fs) = subst (λ (gs : List Form). AllWithin w (cost w l) gs) e within in
     let one : bit (u.0 == u.0) ≡ 1 = bit_one u.0 in
     none_started u.0 xs (none_before (cost w l) (bit (u.0 == u.0)) (spent (starts_by u.0) xs) one here.0 (started_once s completes u.0 xs l a h))

@@ -1,44 +1,52 @@
 -- A measure of forms that each item spends, of what a thread may still do.
-use Rattle.std.proofs.Common.{◌≡◌, ℕ, suc, ◌+◌, ◌-◌, ◌*◌, ◌<◌, ◌≤◌, ◌==◌, Bool, true, false, pos, negsuc, List, [], ◌∷◌, ◌++◌, map, length, take, drop, Option, Some, None, option_map, option_and_then, get_or, if◌then◌else◌, refl, sym, ap, ◌∙◌, subst, arith, append_assoc, take-append-drop, mul-suc}
+use Rattle.std.proofs.Common.{◌≡◌, ℕ, suc, ◌+◌, ◌-◌, ◌*◌, ◌<◌, ◌≤◌, ◌==◌, Bool, true, false, ℤ, pos, negsuc, List, [], ◌∷◌, ◌++◌, map, length, take, drop, Option, Some, None, option_map, option_and_then, get_or, if◌then◌else◌, refl, sym, ap, ◌∙◌, subst, arith, append_assoc, take-append-drop, mul-suc}
 use Rattle.std.specs.Prelude.{reverse}
 use Rattle.std.specs.List.{list_all}
 use Rattle.std.proofs.lemmas.Bool.{and_parts, ltb-true}
-use Rattle.std.proofs.lemmas.List.{take_more, drop_more, reverse-append}
+use Rattle.std.proofs.lemmas.List.{map-append, take_more, drop_more, reverse-append}
 use Rattle.std.proofs.lemmas.Option.{unwrap_or-slice_get}
 use Rattle.cx_names.specs.declared.ObjectNo.{ObjectNo}
 use Rattle.cx_names.specs.declared.Reply.{Reply}
 use Rattle.cx_names.specs.declared.Reply.TheVariants as replies
+use Rattle.cx_machine.specs.declared.kind.Op.{Op}
 use Rattle.cx_machine.specs.declared.kind.Op.TheVariants as ops
 use Rattle.cx_machine.specs.Meaning.{IsOnceEach}
+use Rattle.cx_scene.specs.declared.declared.Object.{Object}
+use Rattle.cx_scene.specs.declared.declared.Object.TheVariants as objects
+use Rattle.cx_scene.specs.declared.declared.Small.{Small}
 use Rattle.cx_scene.specs.declared.call.Call.{Call}
 use Rattle.cx_scene.specs.Scene.{Scene, body_of}
 use Rattle.cx_items.specs.declared.kept.Kept.{Kept}
 use Rattle.cx_items.specs.declared.item.Item.{Item}
 use Rattle.cx_items.specs.declared.form.Form.{Form}
-use Rattle.cx_items.specs.declared.form.Form.TheVariants.{Says as SaysForm}
+use Rattle.cx_items.specs.declared.form.Form.TheVariants.{Change, Look, Says as SaysForm}
 use Rattle.cx_items.specs.declared.form.Forms.TheVariants.{One}
 use Rattle.cx_items.specs.declared.task.Task.{Task}
-use Rattle.cx_items.specs.declared.task.Task.TheVariants.{Makes, Answers, Says, LocksFrom, LocksRest, TriesAll, Completes}
+use Rattle.cx_items.specs.declared.task.Task.TheVariants.{Makes, Answers, Says, Arrives, ArrivesAndWaits, ArrivesAndDrops, Completes, CallsOnce, LocksFrom, LocksRest, TriesAll}
+use Rattle.cx_items.specs.declared.form.Wanted.{Wanted}
+use Rattle.cx_items.specs.declared.form.Wanted.TheVariants.{Just, ANumber}
 use Rattle.cx_items.specs.Form.{forms_in, change, look, fits}
-use Rattle.cx_items.specs.Memory.{Memory, memory_at_start, remembering}
-use Rattle.cx_items.specs.Calls.{opened, end_tasks}
-use Rattle.cx_items.specs.Next.{Local, Alternative, goes, to, says, has_turns, turned, next_call, past, replied, mutex_at, unlocks, backs_off, alternatives, offered_by, offered, or_then, reached, due, with_due, with_item, moved, after_item, is_due, local_at_start, start_of_body}
+use Rattle.cx_items.specs.Memory.{Memory, memory_at_start, remembering, settled}
+use Rattle.cx_items.specs.Calls.{one, small_forms, opened, end_tasks}
+use Rattle.cx_items.specs.Next.{completion, number_of, undue, settled_local, Local, Alternative, goes, to, says, has_turns, turned, next_call, past, replied, mutex_at, unlocks, backs_off, alternatives, offered_by, offered, or_then, reached, due, with_due, with_item, moved, after_item, is_due, local_at_start, start_of_body}
 use Rattle.cx_history.specs.Follows.{after_items}
-use Rattle.cx_asks.specs.Scenes.{is_fit, IsAskable}
+use Rattle.cx_asks.specs.Scenes.{is_completion_now, is_fit, IsAskable}
 use Rattle.cx_asks.specs.Spent.{spent}
 use Rattle.cx_asks.proofs.Forms.{form_after, is_begin, form_of_item}
-use Rattle.cx_asks.proofs.Kept.{IsKept}
+use Rattle.cx_asks.proofs.Kept.{Keeps, IsKept, kept_keeps}
+use Rattle.cx_asks.proofs.Arriving.{IsBarrier}
 use Rattle.cx_asks.proofs.Standing.{Good}
 use Rattle.cx_items.specs.Steps.{form_of}
-use Rattle.cx_asks.proofs.Going.{is_last, IsStanding, settles_none, AllStand, and_more, stand_offered, stands_moved}
-use Rattle.cx_asks.proofs.Offering.{kept_first, starts_body, stands_first}
+use Rattle.cx_asks.proofs.Going.{is_last, IsStanding, settles, AllStand, and_more, stand_offered, stands_moved}
+use Rattle.cx_asks.proofs.Offering.{kept_first, starts_body, stands_first, offered_any}
 
--- what each form spends, what is still to be spent by what is kept, by a turn of a call on several mutexes, and by a call
+-- what each form spends, what is still to be spent by what is kept, by a turn of a call on several mutexes, by the completion of a phase, and by a call
 pub record Measure : Type 0 where
   pub form : Form → ℕ
   pub item : Item → ℕ
   pub later : List Kept → ℕ
   pub turn : ℕ
+  pub completion : ℕ
   pub call : Call → ℕ
 
 module _ (w : Measure) where
@@ -67,9 +75,21 @@ module _ (w : Measure) where
   abbrev pub rest_cost : List ℕ → ℕ → ℕ
   rest_cost os k = unlocks_cost (take k os) + locks_cost (drop k os)
 
+  -- an arrival, and the completion that it may bring
+  abbrev pub arrival_cost : ObjectNo → ℕ → ℕ
+  arrival_cost b n = w.form (Change b ops.Arrive (pos n) (pos 0) ANumber) + w.completion
+
+  abbrev pub drop_cost : ObjectNo → ℕ
+  drop_cost b = w.form (Change b ops.Drop (pos 0) (pos 0) ANumber) + w.completion
+
   abbrev pub task_cost : Task → ℕ
   task_cost (Makes fs) = forms_cost (forms_in fs)
   task_cost (Answers fs) = forms_cost (forms_in fs)
+  task_cost (Arrives b n) = arrival_cost b n
+  task_cost (ArrivesAndWaits b) = arrival_cost b 1
+  task_cost (ArrivesAndDrops b) = drop_cost b
+  task_cost (Completes b must) = w.completion
+  task_cost (CallsOnce o f r) = w.form (change o ops.Begin 0 replies.Ok) + w.form f
   task_cost (LocksFrom os) = locks_cost os
   task_cost (LocksRest os k) = rest_cost os k
   task_cost (TriesAll os k) = rest_cost os k
@@ -78,7 +98,13 @@ module _ (w : Measure) where
   -- what stands behind a task that leads to the reply is never done: the rest of the text comes after it
   abbrev pub is_replying : Task → Bool
   is_replying (Makes fs) = false
+  is_replying (Completes b must) = false
   is_replying _ = true
+
+  -- the act of a completion
+  abbrev pub small_cost : Option Small → ℕ
+  small_cost None = 0
+  small_cost (Some x) = forms_cost (forms_in (small_forms x))
 
   abbrev pub agenda_cost : ℕ → List Task → ℕ
   agenda_cost later [] = 0
@@ -110,7 +136,9 @@ module _ (w : Measure) where
   pub record IsMeasure (s : Scene) : Type 0 where
     pub spends : (f : Form) (x : Item) (r : Reply) → is_begin f ≡ false → fits s f x ≡ Some r → Spends s f x
     pub locks : (o : ObjectNo) → w.form (change o ops.Lock 0 replies.Ok) ≤ w.form (change o ops.TryLock 0 replies.True)
-    pub looks : (o : ObjectNo) → w.form (look o ops.TryLock 0 replies.False) ≡ 0
+    pub looks : (o : ObjectNo) (op : Op) (a b : ℤ) (wanted : Wanted) → w.form (Look o op a b wanted) ≡ 0
+    pub completes : (b : ObjectNo) (x : Option Small) → is_completion_now x ≡ true → small_cost x + w.form (change b ops.Complete 0 replies.Ok) ≤ w.completion
+    pub alike : (m m' : Memory) → Keeps m m' → w.later m'.kept ≤ w.later m.kept
     pub says : (r : Reply) → w.form (SaysForm r) ≡ 0
     pub turn : (os : List ℕ) → IsOnceEach os → locks_cost os ≤ w.turn
     pub opens : (t n : ℕ) (m : Memory) (c : Call) (later : ℕ) → is_fit s t c ≡ true → agenda_cost later (opened s t n m c) ≤ w.call c + later
@@ -190,6 +218,17 @@ module _ (w : Measure) where
   spend_two : {n : ℕ} (a b : Alternative) → ((r : Reply) → cost (a.next r) + w.form a.form ≤ n) → ((r : Reply) → cost (b.next r) + w.form b.form ≤ n) → AllSpend n (a ∷ b ∷ [])
   spend_two a b h k = spend_more a (b ∷ []) h (spend_one b k)
 
+  spend_all : {n : ℕ} (xs ys : List Alternative) → AllSpend n xs → AllSpend n ys → AllSpend n (xs ++ ys)
+  spend_all [] ys all_spent later = later
+  spend_all (x ∷ xs) ys (spend_more x' xs' next rest) later = spend_more x (xs ++ ys) next (spend_all xs ys rest later)
+
+  spend_within : (n n' : ℕ) (xs : List Alternative) → n ≤ n' → AllSpend n xs → AllSpend n' xs
+  spend_within n n' [] h all_spent = all_spent
+  spend_within n n' (x ∷ xs) h (spend_more x' xs' next rest) = spend_more x xs (λ r. within_more (cost (x.next r)) (w.form x.form) n n' (next r) h) (spend_within n n' xs h rest)
+    where
+      within_more : (c f n n' : ℕ) → c + f ≤ n → n ≤ n' → c + f ≤ n'
+      within_more c f n n' h k = omega (arith, h, k)
+
   cost_either : (b : Bool) (k l : Local) (f n : ℕ) → cost k + f ≤ n → (b ≡ false → cost l + f ≤ n) → cost (if b then k else l) + f ≤ n
   cost_either true k l f n p q = p
   cost_either false k l f n p q = q refl
@@ -235,6 +274,9 @@ module _ (w : Measure) where
         let p = and_parts (is_fit s t c) (list_all (is_fit s t) cs) h in
         begun (agenda_cost (w.later m.kept + (turns_cost m.turns + calls_cost cs)) (opened s t n m c)) (w.call c) (w.later m.kept) (turns_cost m.turns) (calls_cost cs) (is.opens t n m c (w.later m.kept + (turns_cost m.turns + calls_cost cs)) p.0)
 
+    settled_less : (c k k' t t' cs : ℕ) → c + 0 ≤ 0 + (k' + (t' + cs)) → k' ≤ k → t' ≡ t → c + 0 ≤ 0 + (k + (t + cs))
+    settled_less c k k' t t' cs h le e = omega (arith, h, le, e)
+
     replied_costs : (t : ℕ) (l : Local) (r : Reply) → IsKept s l.memory → list_all (is_fit s t) l.calls ≡ true → cost (replied s t l r) + 0 ≤ 0 + later_cost l
     replied_costs t l r kept h = go l.calls refl h
       where
@@ -242,8 +284,12 @@ module _ (w : Measure) where
         go [] e g = subst (λ (cs : List Call). cost (next_call s t l) + 0 ≤ 0 + (w.later l.memory.kept + (turns_cost l.memory.turns + calls_cost cs))) e (next_costs t l.number l.memory l.agenda l.calls kept h)
         go (c ∷ cs) e g =
             let p = and_parts (is_fit s t c) (list_all (is_fit s t) cs) g in
-            let same = settles_none s t c r l.memory p.0 in
-            subst (λ (m : Memory). cost (next_call s t (record { memory = m; agenda = l.agenda; calls = cs; number = l.number + 1 })) + 0 ≤ 0 + (w.later l.memory.kept + (turns_cost l.memory.turns + calls_cost cs))) (sym same) (next_costs t (l.number + 1) l.memory l.agenda cs kept p.1)
+            let m' : Memory = settled c r l.memory in
+            let q = settles s t c r l.memory p.0 in
+            settled_less (cost (next_call s t (record { memory = m'; agenda = l.agenda; calls = cs; number = l.number + 1 }))) (w.later l.memory.kept) (w.later m'.kept) (turns_cost l.memory.turns) (turns_cost m'.turns) (calls_cost cs)
+            (next_costs t (l.number + 1) m' l.agenda cs (kept_keeps s l.memory m' q.keeps kept) p.1)
+            (is.alike l.memory m' q.keeps)
+            (ap turns_cost q.turns)
 
     -- ---- locks of several mutexes
 
@@ -288,28 +334,86 @@ module _ (w : Measure) where
             backed (cost (goes (turned l) (unlocks (reverse (take k os)) ++ LocksFrom (drop k os ++ take k os) ∷ []))) (unlocks_cost (take k os)) (locks_cost (drop k os)) (locks_cost (drop k os ++ take k os)) w.turn (turns_cost l.memory.turns) (turns_cost (l.memory.turns + 1)) (w.later l.memory.kept) (calls_cost (drop 1 l.calls)) f all locks (one_turn l.memory.turns (ltb-true l.memory.turns 16384 e)) z
         go false e = gave_up (cost (goes l (unlocks (reverse (take k os)) ++ Says replies.Spent ∷ []))) (unlocks_cost (take k os)) (locks_cost (drop k os)) (later_cost l) f (unlocked_then (later_cost l) os k (Says replies.Spent) l.agenda) z
 
+    -- ---- barriers and once flags
+
+    -- the arrival's part is spent, and the completion and the reply are left
+    arrived : (f c a later : ℕ) → a ≤ c + later → a + f ≤ (f + c) + later
+    arrived f c a later h = omega (arith, h)
+
+    over : (x f later : ℕ) → f ≡ 0 → (0 + later) + f ≤ x + later
+    over x f later z = omega (arith, z)
+
+    then_waits : (c f later : ℕ) → f ≡ 0 → c + ((f + 0) + (0 + later)) ≤ c + later
+    then_waits c f later z = omega (arith, z)
+
+    spend_arrives : (l : Local) (b : ObjectNo) (n : ℕ) → AllSpend (arrival_cost b n + later_cost l) (alternatives s 0 l (Arrives b n))
+    spend_arrives l b n = spend_two _ _
+        (λ p. arrived (w.form (Change b ops.Arrive (pos n) (pos 0) ANumber)) w.completion (w.completion + (0 + later_cost l)) (later_cost l) (omega arith))
+        (λ r. over (arrival_cost b n) (w.form (look b ops.Arrive n replies.OverExpected)) (later_cost l) (is.looks b ops.Arrive (pos n) (pos 0) (Just replies.OverExpected)))
+
+    spend_waits : (l : Local) (b : ObjectNo) → AllSpend (arrival_cost b 1 + later_cost l) (alternatives s 0 l (ArrivesAndWaits b))
+    spend_waits l b = spend_two _ _
+        (λ p. arrived (w.form (Change b ops.Arrive (pos 1) (pos 0) ANumber)) w.completion (w.completion + ((w.form (Look b ops.Wait (number_of p) (pos 0) (Just replies.Ok)) + 0) + (0 + later_cost l))) (later_cost l) (then_waits w.completion (w.form (Look b ops.Wait (number_of p) (pos 0) (Just replies.Ok))) (later_cost l) (is.looks b ops.Wait (number_of p) (pos 0) (Just replies.Ok))))
+        (λ r. over (arrival_cost b 1) (w.form (look b ops.Arrive 1 replies.OverExpected)) (later_cost l) (is.looks b ops.Arrive (pos 1) (pos 0) (Just replies.OverExpected)))
+
+    spend_drops : (l : Local) (b : ObjectNo) → AllSpend (drop_cost b + later_cost l) (alternatives s 0 l (ArrivesAndDrops b))
+    spend_drops l b = spend_two _ _
+        (λ p. arrived (w.form (Change b ops.Drop (pos 0) (pos 0) ANumber)) w.completion (w.completion + (0 + later_cost l)) (later_cost l) (omega arith))
+        (λ r. over (drop_cost b) (w.form (look b ops.Drop 0 replies.OverExpected)) (later_cost l) (is.looks b ops.Drop (pos 0) (pos 0) (Just replies.OverExpected)))
+
+    called : (b f later : ℕ) → ((f + 0) + (0 + later)) + b ≤ (b + f) + later
+    called b f later = omega arith
+
+    spend_calls : (l : Local) (o : ObjectNo) (f : Form) (r : Reply) → AllSpend ((w.form (change o ops.Begin 0 replies.Ok) + w.form f) + later_cost l) (alternatives s 0 l (CallsOnce o f r))
+    spend_calls l o f r = spend_two _ _
+        (λ p. called (w.form (change o ops.Begin 0 replies.Ok)) (w.form f) (later_cost l))
+        (λ p. over (w.form (change o ops.Begin 0 replies.Ok) + w.form f) (w.form (look o ops.Passive 0 replies.Ok)) (later_cost l) (is.looks o ops.Passive (pos 0) (pos 0) (Just replies.Ok)))
+
+    phase_ended : (f c a : ℕ) → 0 + f ≤ c → a + f ≤ c + a
+    phase_ended f c a h = omega (arith, h)
+
+    small_done : (g f c a rest total : ℕ) → f + rest ≤ total → total + g ≤ c → ((g + 0) + a) + f ≤ c + a
+    small_done g f c a rest total h k = omega (arith, h, k)
+
+    -- the act of a completion, and what comes after it
+    spend_small : (l : Local) (b : ObjectNo) (fs : List Form) (total : ℕ) → forms_cost fs ≤ total → total + w.form (change b ops.Complete 0 replies.Ok) ≤ w.completion → AllSpend (w.completion + cost l) (map (λ f. to f (goes l (one (change b ops.Complete 0 replies.Ok) ∷ []))) fs)
+    spend_small l b [] total h k = all_spent
+    spend_small l b (f ∷ fs) total h k = spend_more _ _ (λ r. small_done (w.form (change b ops.Complete 0 replies.Ok)) (w.form f) w.completion (cost l) (forms_cost fs) total h k) (spend_small l b fs total (other_forms (w.form f) (forms_cost fs) total h) k)
+
+    spend_completes : (l : Local) (b : ObjectNo) (must : Bool) → IsBarrier s b → AllSpend (w.completion + cost l) (alternatives s 0 l (Completes b must))
+    spend_completes l b must q = subst (λ (d : Option Object). AllSpend (w.completion + cost l) (completion l b d)) (sym q.there) (go q.small (is.completes b q.small q.now))
+      where
+        go : (small : Option Small) → small_cost small + w.form (change b ops.Complete 0 replies.Ok) ≤ w.completion → AllSpend (w.completion + cost l) (completion l b (Some (objects.Barrier q.count small)))
+        go None h = spend_one _ (λ r. phase_ended (w.form (change b ops.Complete 0 replies.Ok)) w.completion (cost l) h)
+        go (Some x) h = spend_small l b (forms_in (small_forms x)) (forms_cost (forms_in (small_forms x))) (omega arith) h
+
     -- ---- every task
 
     spend : (t : ℕ) (l : Local) (task : Task) → IsKept s l.memory → Good s t (is_last l.calls) l.memory (task ∷ l.agenda) → list_all (is_fit s t) l.calls ≡ true → AllSpend (agenda_cost (later_cost l) (task ∷ l.agenda)) (alternatives s t l task)
     spend t l (Makes (One f)) k g h = spend_one (to f l) (λ r. one_form (w.form f) (cost l))
     spend t l (Answers fs) k g h = spend_answers l (forms_in fs) (forms_cost (forms_in fs)) (omega arith)
     spend t l (Says r) k g h = spend_one _ (λ q. subst (λ (n : ℕ). cost (replied s t l q) + n ≤ 0 + later_cost l) (sym (is.says r)) (replied_costs t l q k h))
+    spend t l (Arrives b n) k g h = spend_arrives l b n
+    spend t l (ArrivesAndWaits b) k g h = spend_waits l b
+    spend t l (ArrivesAndDrops b) k g h = spend_drops l b
+    spend t l (Completes b must) k g h = spend_completes l b must g.0
+    spend t l (CallsOnce o f r) k g h = spend_calls l o f r
     spend t l (LocksFrom os) k g h = spend_one _ (λ r. first_locked (rest_cost os 1) (w.form (change (mutex_at os 0) ops.Lock 0 replies.Ok)) (w.form (change (mutex_at os 0) ops.TryLock 0 replies.True)) (locks_cost os) (later_cost l) (rest_more os 0 g.1.below ∙ all_rest os) (is.locks (mutex_at os 0)))
     spend t l (LocksRest os n) k g h = spend_two _ _
         (λ r. cost_either (n + 1 == length os) (says l replies.Ok) (goes l (LocksRest os (n + 1) ∷ [])) (w.form (change (mutex_at os n) ops.TryLock 0 replies.True)) (rest_cost os n + later_cost l)
         (last_locked (rest_cost os (n + 1)) (w.form (change (mutex_at os n) ops.TryLock 0 replies.True)) (rest_cost os n) (later_cost l) (rest_more os n g.1.below))
         (λ e. next_locked (rest_cost os (n + 1)) (w.form (change (mutex_at os n) ops.TryLock 0 replies.True)) (rest_cost os n) (later_cost l) (rest_more os n g.1.below)))
-        (λ r. backs_cost l os n (w.form (look (mutex_at os n) ops.TryLock 0 replies.False)) g.1.once (is.looks (mutex_at os n)))
+        (λ r. backs_cost l os n (w.form (look (mutex_at os n) ops.TryLock 0 replies.False)) g.1.once (is.looks (mutex_at os n) ops.TryLock (pos 0) (pos 0) (Just replies.False)))
     spend t l (TriesAll os n) k g h = spend_two _ _
         (λ r. cost_either (n + 1 == length os) (says l (replies.Number (negsuc 0))) (goes l (TriesAll os (n + 1) ∷ [])) (w.form (change (mutex_at os n) ops.TryLock 0 replies.True)) (rest_cost os n + later_cost l)
         (last_locked (rest_cost os (n + 1)) (w.form (change (mutex_at os n) ops.TryLock 0 replies.True)) (rest_cost os n) (later_cost l) (rest_more os n g.below))
         (λ e. next_locked (rest_cost os (n + 1)) (w.form (change (mutex_at os n) ops.TryLock 0 replies.True)) (rest_cost os n) (later_cost l) (rest_more os n g.below)))
-        (λ r. gave_up (cost (goes l (unlocks (reverse (take n os)) ++ Says (replies.Number (pos n)) ∷ []))) (unlocks_cost (take n os)) (locks_cost (drop n os)) (later_cost l) (w.form (look (mutex_at os n) ops.TryLock 0 replies.False)) (unlocked_then (later_cost l) os n (Says (replies.Number (pos n))) l.agenda) (is.looks (mutex_at os n)))
+        (λ r. gave_up (cost (goes l (unlocks (reverse (take n os)) ++ Says (replies.Number (pos n)) ∷ []))) (unlocks_cost (take n os)) (locks_cost (drop n os)) (later_cost l) (w.form (look (mutex_at os n) ops.TryLock 0 replies.False)) (unlocked_then (later_cost l) os n (Says (replies.Number (pos n))) l.agenda) (is.looks (mutex_at os n) ops.TryLock (pos 0) (pos 0) (Just replies.False)))
     spend t l _ k g h = absurd g
 
     spend_offered : (t : ℕ) (l : Local) (ts : List Task) → IsKept s l.memory → Good s t (is_last l.calls) l.memory ts → list_all (is_fit s t) l.calls ≡ true → AllSpend (agenda_cost (later_cost l) ts) (offered_by s t l ts)
     spend_offered t l [] k g h = all_spent
-    spend_offered t l (Completes b false ∷ ts) k g h = absurd g
+    spend_offered t l (Completes b false ∷ ts) k g h = spend_all (alternatives s t (record l { agenda = ts }) (Completes b false)) (offered_by s t l ts) (spend t (record l { agenda = ts }) (Completes b false) k g h) (spend_within (agenda_cost (later_cost l) ts) (w.completion + agenda_cost (later_cost l) ts) (offered_by s t l ts) (omega arith) (spend_offered t l ts k (g.2 l.memory) h))
     spend_offered t l (task ∷ ts) k g h = spend t (record l { agenda = ts }) task k g h
 
     -- ---- one item
@@ -393,3 +497,16 @@ module _ (w : Measure) where
 
     pub offered_within : (t : ℕ) (l : Local) → IsStanding s t l → AllWithin (cost l) (map form_of (offered s t l))
     offered_within t l q = within (cost l) (offered s t l) (spend_offered t l l.agenda q.memory q.agenda q.calls)
+
+    all_later : (n : ℕ) (fs gs : List Form) → AllWithin n (fs ++ gs) → AllWithin n gs
+    all_later n [] gs h = h
+    all_later n (f ∷ fs) gs h = all_later n fs gs h.1
+
+    -- so does each form where a completion that isn't due is left out
+    pub settled_within : (t : ℕ) (l : Local) → IsStanding s t l → AllWithin (cost l) (map form_of (offered s t (settled_local l)))
+    settled_within t l q = subst (λ (ys : List Alternative). AllWithin (cost l) (map form_of ys)) (sym (offered_any s t l (undue l.agenda) (undue l.agenda))) (undue_within l.agenda (offered_within t l q))
+      where
+        undue_within : (ts : List Task) → AllWithin (cost l) (map form_of (offered_by s t l ts)) → AllWithin (cost l) (map form_of (offered_by s t l (undue ts)))
+        undue_within [] h = h
+        undue_within (Completes b false ∷ ts) h = all_later (cost l) (map form_of (alternatives s t (record l { agenda = ts }) (Completes b false))) (map form_of (offered_by s t l ts)) (subst (λ (fs : List Form). AllWithin (cost l) fs) (map-append form_of (alternatives s t (record l { agenda = ts }) (Completes b false)) (offered_by s t l ts)) h)
+        undue_within (task ∷ ts) h = h

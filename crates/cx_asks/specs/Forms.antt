@@ -9,7 +9,7 @@ use Rattle.cx_machine.specs.declared.kind.Op.{Op}
 use Rattle.cx_machine.specs.declared.kind.Op.TheVariants as ops
 use Rattle.cx_scene.specs.Scene.{Scene}
 use Rattle.cx_items.specs.declared.form.Wanted.{Wanted}
-use Rattle.cx_items.specs.declared.form.Wanted.TheVariants.{Just}
+use Rattle.cx_items.specs.declared.form.Wanted.TheVariants.{Just, ANumber}
 use Rattle.cx_items.specs.declared.form.Form.{Form}
 use Rattle.cx_items.specs.declared.form.Form.TheVariants as forms
 use Rattle.cx_items.specs.declared.item.Item.{Item}
@@ -67,6 +67,18 @@ change_replies (kinds.Semaphore count max) ops.Release = Just replies.Ok ∷ []
 change_replies (kinds.Semaphore count max) ops.Acquire = Just replies.Ok ∷ []
 change_replies (kinds.Semaphore count max) ops.TryAcquire = Just replies.True ∷ []
 change_replies (kinds.Latch count) ops.CountDown = Just replies.Ok ∷ []
+change_replies kinds.Shared ops.Lock = Just replies.Ok ∷ []
+change_replies kinds.Shared ops.TryLock = Just replies.True ∷ []
+change_replies kinds.Shared ops.Unlock = Just replies.Ok ∷ []
+change_replies kinds.Shared ops.LockShared = Just replies.Ok ∷ []
+change_replies kinds.Shared ops.TryLockShared = Just replies.True ∷ []
+change_replies kinds.Shared ops.UnlockShared = Just replies.Ok ∷ []
+change_replies (kinds.Barrier count) ops.Arrive = ANumber ∷ []
+change_replies (kinds.Barrier count) ops.Drop = ANumber ∷ []
+change_replies (kinds.Barrier count) ops.Complete = Just replies.Ok ∷ []
+change_replies kinds.Once ops.Begin = Just replies.Ok ∷ []
+change_replies kinds.Once ops.Finish = Just replies.Ok ∷ []
+change_replies kinds.Once ops.Fail = Just replies.Ok ∷ []
 change_replies _ _ = []
 
 -- the replies that a look of this word may have
@@ -77,6 +89,12 @@ look_replies (kinds.Semaphore count max) ops.Release = Just replies.Over ∷ []
 look_replies (kinds.Semaphore count max) ops.TryAcquire = Just replies.False ∷ []
 look_replies (kinds.Latch count) ops.Wait = Just replies.Ok ∷ []
 look_replies (kinds.Latch count) ops.TryWait = Just replies.True ∷ Just replies.False ∷ []
+look_replies kinds.Shared ops.TryLock = Just replies.False ∷ []
+look_replies kinds.Shared ops.TryLockShared = Just replies.False ∷ []
+look_replies (kinds.Barrier count) ops.Arrive = Just replies.OverExpected ∷ []
+look_replies (kinds.Barrier count) ops.Drop = Just replies.OverExpected ∷ []
+look_replies (kinds.Barrier count) ops.Wait = Just replies.Ok ∷ []
+look_replies kinds.Once ops.Passive = Just replies.Ok ∷ []
 look_replies _ _ = []
 
 -- the forms of the change that is asked

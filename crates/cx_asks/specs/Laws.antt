@@ -16,7 +16,7 @@ use Rattle.cx_items.specs.declared.item.Item.{Item}
 use Rattle.cx_items.specs.declared.item.Item.TheVariants as items
 use Rattle.cx_items.specs.declared.kept.Kept.{Kept}
 use Rattle.cx_items.specs.Memory.{is_joinable}
-use Rattle.cx_items.specs.Next.{Local, offered, local_at_start}
+use Rattle.cx_items.specs.Next.{Local, offered, settled_local, local_at_start}
 use Rattle.cx_items.specs.Steps.{form_of}
 use Rattle.cx_history.specs.IsRecord.{is_item}
 use Rattle.cx_history.specs.Follows.{any_starts, after_items}
@@ -41,13 +41,13 @@ ChangesAnswer = (s : Scene) (d : Object) (o : ObjectNo) (k : Ask) (h : Kept) (sh
 abbrev pub LooksAnswer : Type 0
 LooksAnswer = (s : Scene) (d : Object) (o : ObjectNo) (k : Ask) (h : Kept) (share : ℕ) (es : List Entry) (now : State) (by : ThreadNo) (op : Op) (r : Reply) (n : ℕ) → slice_get s.objects o.0 ≡ Some d → serves (kind_of d) h share k → k.look ≡ Some op → run step (Some (opening (kind_of d))) es ≡ Some now → shows now (look_of by op k.a k.b r n) ≡ true → n < 2 ^ 28 → Answers s by.0 (asked_forms (kind_of d) o k) (items.Look o (look_of by op k.a k.b r n))
 
--- WHAT A THREAD IS OFFERED WHEREVER ITS TEXT LEADS IT IS SERVED, whichever completions are due
+-- WHAT A THREAD IS OFFERED WHEREVER ITS TEXT LEADS IT IS SERVED, whichever completions are due, where one that isn't due is left out
 abbrev pub OfferedIsServed : Type 0
-OfferedIsServed = (s : Scene) (completes : ℕ → ℕ → Bool) (t : ℕ) (xs : List Item) (l : Local) → IsAskable s → after_items s completes t (local_at_start s t) xs ≡ Some l → IsOffer s t l (map form_of (offered s t l))
+OfferedIsServed = (s : Scene) (completes : ℕ → ℕ → Bool) (t : ℕ) (xs : List Item) (l : Local) → IsAskable s → after_items s completes t (local_at_start s t) xs ≡ Some l → IsOffer s t (settled_local l) (map form_of (offered s t (settled_local l)))
 
 -- what an offered ask takes from a latch, with what the thread has taken so far, is within what its text takes
 abbrev pub AsksTakeWithin : Type 0
-AsksTakeWithin = (s : Scene) (completes : ℕ → ℕ → Bool) (t : ℕ) (xs : List Item) (l : Local) (o : ObjectNo) (k : Ask) → IsAskable s → after_items s completes t (local_at_start s t) xs ≡ Some l → IsAskOf (map form_of (offered s t l)) o k → spent (takes_by o.0) xs + takes k ≤ taken_in s t o.0
+AsksTakeWithin = (s : Scene) (completes : ℕ → ℕ → Bool) (t : ℕ) (xs : List Item) (l : Local) (o : ObjectNo) (k : Ask) → IsAskable s → after_items s completes t (local_at_start s t) xs ≡ Some l → IsAskOf (map form_of (offered s t (settled_local l))) o k → spent (takes_by o.0) xs + takes k ≤ taken_in s t o.0
 
 -- what each thread's text takes of a latch is left for it
 abbrev pub SharesAreLeft : Type 0
@@ -55,7 +55,7 @@ SharesAreLeft = (s : Scene) (o : ℕ) → IsAskable s → 0 < length s.threads �
 
 -- a thread that main may start was not started before
 abbrev pub StartsAreFirst : Type 0
-StartsAreFirst = (s : Scene) (completes : ℕ → ℕ → Bool) (xs : List Item) (l : Local) (u : ThreadNo) (fs : List Form) → IsAskable s → after_items s completes 0 (local_at_start s 0) xs ≡ Some l → map form_of (offered s 0 l) ≡ forms.Does (controls.Start u true) ∷ fs → any_starts u.0 xs ≡ false
+StartsAreFirst = (s : Scene) (completes : ℕ → ℕ → Bool) (xs : List Item) (l : Local) (u : ThreadNo) (fs : List Form) → IsAskable s → after_items s completes 0 (local_at_start s 0) xs ≡ Some l → map form_of (offered s 0 (settled_local l)) ≡ forms.Does (controls.Start u true) ∷ fs → any_starts u.0 xs ≡ false
 
 -- main may join each thread that it has started and not joined
 abbrev pub StartedMayBeJoined : Type 0

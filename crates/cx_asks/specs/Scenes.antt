@@ -1,10 +1,12 @@
 -- Scenarios of which each thread asks only what is served, whatever came before.
-use Rattle.std.specs.Prelude.{◌≡◌, ℕ, zero, suc, ◌+◌, ◌-◌, ◌<◌, ◌≤◌, Bool, true, false, ◌==◌, ◌&&◌, not, List, [], ◌∷◌, length, slice_get, Option, Some, nat_lt, nat_le, if◌then◌else◌}
+use Rattle.std.specs.Prelude.{◌≡◌, ℕ, zero, suc, ◌+◌, ◌-◌, ◌^◌, ◌<◌, ◌≤◌, Bool, true, false, ◌==◌, ◌&&◌, ◌||◌, not, List, [], ◌∷◌, length, slice_get, Option, Some, None, nat_lt, nat_le, if◌then◌else◌}
 use Rattle.std.specs.List.{list_all}
 use Rattle.cx_machine.specs.Words.{has}
 use Rattle.cx_machine.specs.Meaning.{bit}
 use Rattle.cx_scene.specs.declared.declared.Object.{Object}
 use Rattle.cx_scene.specs.declared.declared.Object.TheVariants as objects
+use Rattle.cx_scene.specs.declared.declared.Small.{Small}
+use Rattle.cx_scene.specs.declared.declared.Small.TheVariants as smalls
 use Rattle.cx_scene.specs.declared.declared.Thread.{Thread}
 use Rattle.cx_scene.specs.declared.declared.Thread.TheVariants as threads
 use Rattle.cx_scene.specs.declared.call.Call.{Call}
@@ -13,12 +15,21 @@ use Rattle.cx_scene.specs.Scene.{Scene, body_of}
 
 -- ---- what is declared
 
+-- a completion that releases a semaphore, or none
+abbrev pub is_completion_now : Option Small → Bool
+is_completion_now None = true
+is_completion_now (Some (smalls.Release q n)) = nat_le n 65535
+is_completion_now _ = false
+
 -- an object of a kind that threads are run on, with its numbers in their ranges
 abbrev pub is_object_now : Object → Bool
 is_object_now (objects.Mutex numbers) = numbers == 0
 is_object_now objects.Recursive = true
 is_object_now (objects.Semaphore count max) = nat_le count max && nat_le 1 max && nat_le max 65535
 is_object_now (objects.Latch count) = nat_le count 65535
+is_object_now objects.Shared = true
+is_object_now (objects.Barrier count small) = nat_le 1 count && nat_le count 4096 && is_completion_now small
+is_object_now objects.Once = true
 is_object_now _ = false
 
 -- a thread that is started and joined, with no stop state and no async
@@ -36,10 +47,16 @@ abbrev pub is_recursive : Option Object → Bool
 is_recursive (Some objects.Recursive) = true
 is_recursive _ = false
 
+-- a shared mutex
+abbrev pub is_shared : Option Object → Bool
+is_shared (Some objects.Shared) = true
+is_shared _ = false
+
 -- a mutex that a thread owns alone
 abbrev pub is_lockable : Option Object → Bool
 is_lockable (Some (objects.Mutex numbers)) = true
 is_lockable (Some objects.Recursive) = true
+is_lockable (Some objects.Shared) = true
 is_lockable _ = false
 
 -- a semaphore
@@ -51,6 +68,26 @@ is_semaphore _ = false
 abbrev pub is_latch : Option Object → Bool
 is_latch (Some (objects.Latch count)) = true
 is_latch _ = false
+
+-- a barrier
+abbrev pub is_barrier : Option Object → Bool
+is_barrier (Some (objects.Barrier count small)) = true
+is_barrier _ = false
+
+-- a once flag
+abbrev pub is_once : Option Object → Bool
+is_once (Some objects.Once) = true
+is_once _ = false
+
+-- what a completion releases is a declared semaphore
+abbrev pub completes_on : Scene → Option Small → Bool
+completes_on s (Some (smalls.Release q n)) = is_semaphore (slice_get s.objects q.0)
+completes_on s _ = true
+
+-- an object whose completion, if it has one, releases a declared semaphore
+abbrev pub is_completed_on : Scene → Object → Bool
+is_completed_on s (objects.Barrier count small) = completes_on s small
+is_completed_on s _ = true
 
 -- a thread that may be started and joined
 abbrev pub is_plain_thread : Option Thread → Bool
@@ -70,11 +107,14 @@ are_plain s os = list_all (λ o. is_plain (slice_get s.objects o)) os && are_apa
 
 -- a call of thread t on objects of the kinds that it is for, with its counts in their ranges; main alone starts and joins
 abbrev pub is_fit : Scene → ℕ → Call → Bool
-is_fit s t (calls.Lock o) = is_plain (slice_get s.objects o.0)
+is_fit s t (calls.Lock o) = is_plain (slice_get s.objects o.0) || is_shared (slice_get s.objects o.0)
 is_fit s t (calls.LockRecursive o) = is_recursive (slice_get s.objects o.0)
-is_fit s t (calls.TryLock o) = is_plain (slice_get s.objects o.0)
+is_fit s t (calls.TryLock o) = is_plain (slice_get s.objects o.0) || is_shared (slice_get s.objects o.0)
 is_fit s t (calls.TryLockRecursive o) = is_recursive (slice_get s.objects o.0)
 is_fit s t (calls.Unlock o) = is_lockable (slice_get s.objects o.0)
+is_fit s t (calls.LockShared o) = is_shared (slice_get s.objects o.0)
+is_fit s t (calls.TryLockShared o) = is_shared (slice_get s.objects o.0)
+is_fit s t (calls.UnlockShared o) = is_shared (slice_get s.objects o.0)
 is_fit s t (calls.LockAll os) = nat_lt 1 (length os) && are_plain s os
 is_fit s t (calls.TryLockAll os) = nat_lt 0 (length os) && are_plain s os
 is_fit s t (calls.Release q n) = is_semaphore (slice_get s.objects q.0) && nat_le n 65535
@@ -84,6 +124,12 @@ is_fit s t (calls.CountDown l n) = is_latch (slice_get s.objects l.0) && nat_le 
 is_fit s t (calls.WaitLatch l) = is_latch (slice_get s.objects l.0)
 is_fit s t (calls.TryWait l) = is_latch (slice_get s.objects l.0)
 is_fit s t (calls.ArriveAndWaitLatch l) = is_latch (slice_get s.objects l.0)
+is_fit s t (calls.Arrive b n) = is_barrier (slice_get s.objects b.0) && nat_le 1 n && nat_le n 4096
+is_fit s t (calls.WaitBarrier b) = is_barrier (slice_get s.objects b.0)
+is_fit s t (calls.ArriveAndWait b) = is_barrier (slice_get s.objects b.0)
+is_fit s t (calls.ArriveAndDrop b) = is_barrier (slice_get s.objects b.0)
+is_fit s t (calls.CallOnceReturn o) = is_once (slice_get s.objects o.0)
+is_fit s t (calls.CallOnceThrow o e) = is_once (slice_get s.objects o.0) && nat_lt e (2 ^ 32)
 is_fit s t (calls.Start u) = (t == 0) && not (u.0 == 0) && is_plain_thread (slice_get s.threads u.0)
 is_fit s t (calls.Join u) = (t == 0) && is_plain_thread (slice_get s.threads u.0)
 is_fit s t _ = false
@@ -145,9 +191,10 @@ startings u (c ∷ cs) = starts_of u c + startings u cs
 
 -- ---- scenarios
 
--- objects and threads of these kinds, at most 4,096 calls a thread, which are fit, each thread started at most once, and latches that count as much as is taken from them
+-- objects and threads of these kinds, completions that release semaphores, at most 4,096 calls a thread, which are fit, each thread started at most once, and latches that count as much as is taken from them
 pub record IsAskable (s : Scene) : Type 0 where
   pub objects : list_all is_object_now s.objects ≡ true
+  pub completions : list_all (is_completed_on s) s.objects ≡ true
   pub threads : list_all is_thread_now s.threads ≡ true
   pub few : (t : ℕ) → length (body_of s t) ≤ 4096
   pub calls : (t : ℕ) → list_all (is_fit s t) (body_of s t) ≡ true

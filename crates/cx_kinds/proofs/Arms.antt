@@ -1,8 +1,14 @@
 -- What a call made of an access whose kind is known, it made of the access.
-use Rattle.std.proofs.Common.{◌≡◌, ℕ, sym, subst}
-use Rattle.cx_kinds.specs.Sights.{Keeps, Met, SplitInto}
+use Rattle.std.proofs.Common.{◌≡◌, ℕ, Option, sym, subst}
+use Rattle.cx_names.specs.declared.ObjectNo.{ObjectNo}
+use Rattle.cx_items.specs.declared.item.Item.{Item}
+use Rattle.cx_asks.specs.declared.ask.Ask.{Ask}
+use Rattle.cx_kinds.specs.Sights.{Acted, Keeps, Met, SplitInto}
 use Rattle.cx_kinds.specs.Accesses.{Knows}
 use Rattle.cx_kinds.specs.declared.access.Access.{Access}
+
+pub acted_in : (o : ObjectNo) (ask : Ask) (a x a' : Access) (i : Option Item) → a ≡ x → Acted o ask (Knows x) (Knows a') i → Acted o ask (Knows a) (Knows a') i
+acted_in o ask a x a' i e h = subst (λ (y : Access). Acted o ask (Knows y) (Knows a') i) (sym e) h
 
 pub keeps_in : (a x a' : Access) → a ≡ x → Keeps (Knows x) (Knows a') → Keeps (Knows a) (Knows a')
 keeps_in a x a' e h = subst (λ (y : Access). Keeps (Knows y) (Knows a')) (sym e) h

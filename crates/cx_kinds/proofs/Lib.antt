@@ -1,6 +1,10 @@
 pub mod AsAny
 pub mod Arms
+pub mod Asking
+pub mod Completing
+pub mod Executing
 pub mod Giving
 pub mod Holding
+pub mod Owing
 pub mod Seeing
 pub mod Serving

@@ -9,14 +9,12 @@ use Rattle.cx_turn.specs.declared.view.View.{View}
 use Rattle.cx_turn.specs.Views.{split_left, split_right, less_share, given, both_of, having_met, longer}
 use Rattle.cx_turn.specs.declared.either.Either.{Either}
 use Rattle.cx_turn.specs.declared.either.Either.TheVariants as eithers
-use Rattle.cx_history.specs.Follows.{is_completing}
 use Rattle.cx_items.specs.declared.item.Item.{Item}
 use Rattle.cx_items.specs.declared.kept.Kept.{Kept}
-use Rattle.cx_items.specs.Memory.{nothing}
 use Rattle.cx_asks.specs.declared.ask.Ask.{Ask}
 use Rattle.cx_kinds.specs.AnyKind.{IsKindOf, erase}
 use Rattle.cx_kinds.specs.Acts.{DoesAsk, IsKept, IsItemOf, CanSplit, StepsIf, IsKeptBy}
-use Rattle.cx_kinds.specs.Holding.{changes_back}
+use Rattle.cx_kinds.specs.Holding.{owes_completion}
 use Rattle.cx_kinds.specs.Seats.{IsRight, SeesSo}
 use Rattle.cx_kinds.specs.Sights.{IsOfSame, IsSplitOff}
 use Rattle.cx_kinds.proofs.AsAny.{leads_as, known_as, steps_as}
@@ -126,13 +124,13 @@ module _ {M X K : Type 0} (G : Ghosts M) (knows : X → K → View M → Type 0)
         let b = at_ j W t in
         seen_as x j' (having_met b.0 a.0) (having_met W V) (ap (λ U. having_met W U) a.2 ∙ ap (λ U. having_met U (erase f a.0)) b.2) (back j' (having_met b.0 a.0) (goes a.0 b.0 a.1 b.1))
 
-    pub completing : (k : K) (b : Bool) → ((v : View M) (m : M) → knows y k v → run G.step (Some v.start) v.front ≡ Some m → b ≡ is_completing (Some (f m))) → (V : View all.State) → Saw x k V → b ≡ is_completing (run all.step (Some V.start) V.front)
+    pub completing : (k : K) (b : Bool) → ((v : View M) (m : M) → knows y k v → run G.step (Some v.start) v.front ≡ Some m → b ≡ owes_completion v.number (Some (f m))) → (V : View all.State) → Saw x k V → b ≡ owes_completion V.number (run all.step (Some V.start) V.front)
     completing k b told V s =
         let a = at_ k V s in
         let r = right y k a.0 a.1 in
         let legal = r.known.legal in
         let leads = leads_as G f kind a.0.front a.0.start legal.0 legal.1 in
-        told a.0 legal.0 a.1 legal.1 ∙ (ap is_completing (sym leads) ∙ sym (ap (λ (U : View all.State). is_completing (run all.step (Some U.start) U.front)) a.2))
+        told a.0 legal.0 a.1 legal.1 ∙ (ap (owes_completion a.0.number) (sym leads) ∙ sym (ap (λ (U : View all.State). owes_completion U.number (run all.step (Some U.start) U.front)) a.2))
 
     pub stays : (k k' : K) → ((v : View M) → knows y k v → knows y k' v) → (V : View all.State) → Saw x k V → Saw x k' V
     stays k k' goes V s = let a = at_ k V s in seen_as x k' a.0 V a.2 (back k' a.0 (goes a.0 a.1))
@@ -147,15 +145,17 @@ module _ {M X K : Type 0} (G : Ghosts M) (knows : X → K → View M → Type 0)
           subst (λ (U : View all.State). IsOfSame U (erase f r.0)) (sym a.2) (record { number = is.number; seats = is.seats; start = ap f is.start; splits = is.splits }),
         )
 
-    pub freed : (k k' : K) (h h' : Kept) → ((v : View M) → knows y k v → changes_back h ≤ v.left → h' ≡ nothing) → (V : View all.State) → Saw x k V → changes_back h ≤ V.left → h' ≡ nothing
-    freed k k' h h' free V s enough =
+    -- what is so where so many changes are left
+    pub where_left : (k : K) (n : ℕ) (P : Type 0) → ((v : View M) → knows y k v → n ≤ v.left → P) → (V : View all.State) → Saw x k V → n ≤ V.left → P
+    where_left k n P is V s enough =
         let a = at_ k V s in
-        free a.0 a.1 (subst (λ (U : View all.State). changes_back h ≤ U.left) a.2 enough)
+        is a.0 a.1 (subst (λ (U : View all.State). n ≤ U.left) a.2 enough)
 
-    pub free_now : (k' : K) (h' : Kept) → ((w : View M) → knows y k' w → (h' ≡ nothing) ⊎ (w.left ≡ 0)) → (W : View all.State) → Saw x k' W → (h' ≡ nothing) ⊎ (W.left ≡ 0)
-    free_now k' h' free W s =
-        let a = at_ k' W s in
-        subst (λ (U : View all.State). (h' ≡ nothing) ⊎ (U.left ≡ 0)) (sym a.2) (free a.0 a.1)
+    -- what is so unless no change is left
+    pub unless_out : (k : K) (P : Type 0) → ((w : View M) → knows y k w → P ⊎ (w.left ≡ 0)) → (W : View all.State) → Saw x k W → P ⊎ (W.left ≡ 0)
+    unless_out k P is W s =
+        let a = at_ k W s in
+        subst (λ (U : View all.State). P ⊎ (U.left ≡ 0)) (sym a.2) (is a.0 a.1)
 
     -- ---- splitting
 

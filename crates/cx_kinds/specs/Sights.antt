@@ -1,17 +1,16 @@
 -- What a call makes of what has been seen.
-use Rattle.std.specs.Prelude.{◌≡◌, ◌⊎◌, ℕ, ◌+◌, ◌*◌, ◌≤◌, min, Bool, [], Option, Some, IsSome}
+use Rattle.std.specs.Prelude.{◌≡◌, ◌⊎◌, ℕ, ◌+◌, ◌*◌, ◌≤◌, min, Bool, false, [], Option, Some, IsSome}
 use Rattle.cx_names.specs.declared.ObjectNo.{ObjectNo}
 use Rattle.cx_machine.specs.Machine as all
-use Rattle.cx_machine.specs.Meaning.{run}
+use Rattle.cx_machine.specs.Meaning.{run, bit}
 use Rattle.cx_turn.specs.declared.view.View.{View}
 use Rattle.cx_turn.specs.Views.{opening_view, split_left, less_share, both_of, having_met}
-use Rattle.cx_history.specs.Follows.{is_completing}
 use Rattle.cx_items.specs.declared.item.Item.{Item}
 use Rattle.cx_items.specs.declared.kept.Kept.{Kept}
 use Rattle.cx_items.specs.Memory.{nothing}
 use Rattle.cx_asks.specs.declared.ask.Ask.{Ask}
 use Rattle.cx_kinds.specs.Acts.{StepsIf, CanSplit}
-use Rattle.cx_kinds.specs.Holding.{changes_back}
+use Rattle.cx_kinds.specs.Holding.{changes_back, owes_completion}
 use Rattle.cx_kinds.specs.Seats.{Sight}
 
 pub record IsSeen (a : Sight) : Type 0 where
@@ -45,9 +44,17 @@ pub record IsFreed (a : Sight) (k k' : Kept) : Type 0 where
 pub record IsFree (a : Sight) (k : Kept) : Type 0 where
   pub free : (V : View all.State) → a V → (k ≡ nothing) ⊎ (V.left ≡ 0)
 
--- the history leaves a completion due, or not
+-- what was begun is ended where as many changes are left as all takes
+pub record IsEnded (a : Sight) (k : Kept) (begun begun' : Bool) : Type 0 where
+  pub ended : (V : View all.State) → a V → changes_back k + bit begun ≤ V.left → begun' ≡ false
+
+-- nothing is begun, or no change is left
+pub record IsIdle (a : Sight) (begun : Bool) : Type 0 where
+  pub idle : (V : View all.State) → a V → (begun ≡ false) ⊎ (V.left ≡ 0)
+
+-- the history leaves a completion due by the thread itself, or not
 pub record IsCompleting (a : Sight) (b : Bool) : Type 0 where
-  pub told : (V : View all.State) → a V → b ≡ is_completing (run all.step (Some V.start) V.front)
+  pub told : (V : View all.State) → a V → b ≡ owes_completion V.number (run all.step (Some V.start) V.front)
 
 -- it stayed
 pub record Stays (a a' : Sight) : Type 0 where

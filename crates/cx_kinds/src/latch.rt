@@ -1,5 +1,5 @@
 //! Latches [thread.latch.class].
-ghost use Rattle.std.specs.Prelude.{◌≡◌, ◌≤◌, ℕ, IfOk, refl};
+ghost use Rattle.std.specs.Prelude.{◌≡◌, ◌≤◌, ℕ, false, IfOk, refl};
 ghost use Rattle.std.proofs.Common.{sym, ◌∙◌};
 ghost use Rattle.cx_machine.specs.Machine as all;
 ghost use Rattle.cx_sync.specs.Sync.{IsLatchPassWith};
@@ -48,6 +48,8 @@ impl Shared for Latch {
     ghost start = { λ x. cell_start kept_state x.cell };
 
     ghost kept = { λ k. nothing };
+
+    ghost begun = { λ k. false };
 
     ghost serves = { λ h share ask. asks_latch share ask.change ask.look ask.a ask.b };
 

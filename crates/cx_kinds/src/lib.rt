@@ -13,20 +13,27 @@
 //! - its own file here: its token, how it is made, and `impl Shared`;
 //! - src/access.rt: its arm of `Access` and of each match;
 //! - specs/Accesses: a line for it in each definition, and specs/Tokens where its token is more than a pass;
-//! - proofs/Serving: its line; and a proof file where a hold has to stay one;
+//! - proofs/Serving: its line; proofs/access: its answers where an access acts, gives up, meets and splits;
+//!   and a proof file where what is held or begun has to stay so;
 //! - what may be asked of it, beside the other kinds' tables.
 #![tactic(auto)]
 
 mod access;
+mod barrier;
 mod latch;
 mod mutex;
+mod once;
 mod recursive;
 mod seat;
 mod semaphore;
 mod shared;
+mod shared_mutex;
 
 pub use access::{Access, made};
+pub use barrier::BarrierToken;
 pub use mutex::MutexToken;
+pub use once::OnceToken;
 pub use recursive::LevelToken;
 pub use seat::Seat;
 pub use shared::{Pooled, Shared};
+pub use shared_mutex::{Owned, SharedToken};

@@ -60,6 +60,8 @@ impl Shared for Mutex {
 
     ghost kept = { λ k. kept_by k.hold };
 
+    ghost begun = { λ k. false };
+
     ghost serves = { λ h share ask. asks_mutex h.levels ask.change ask.look ask.a ask.b };
 
     ghost as_any = { all.Mutex };

@@ -1,5 +1,5 @@
 //! Recursive mutexes [thread.mutex.recursive].
-ghost use Rattle.std.specs.Prelude.{◌≡◌, ◌+◌, ◌≤◌, ℕ, true, pos, IfOk, IfSome, IfNone, refl};
+ghost use Rattle.std.specs.Prelude.{◌≡◌, ◌+◌, ◌≤◌, ℕ, true, false, pos, IfOk, IfSome, IfNone, refl};
 ghost use Rattle.std.proofs.Common.{sym, ◌∙◌};
 ghost use Rattle.cx_names.specs.declared.Reply.TheVariants as replies;
 ghost use Rattle.cx_machine.specs.Machine as all;
@@ -108,6 +108,8 @@ impl Shared for RecursiveMutex {
     ghost start = { λ x. cell_start kept_state x.cell };
 
     ghost kept = { λ k. levelled k.levels.count };
+
+    ghost begun = { λ k. false };
 
     ghost serves = { λ h share ask. asks_recursive h.levels ask.change ask.look ask.a ask.b };
 

@@ -6,7 +6,7 @@ ghost use Rattle.cx_items.specs.Memory.{nothing};
 ghost use Rattle.cx_kinds.specs.AnyKind.{erase};
 ghost use Rattle.cx_kinds.specs.Acts.{IsItemOf, IsKeptBy};
 ghost use Rattle.cx_kinds.specs.Seats.{KnowsSeat};
-ghost use Rattle.cx_kinds.specs.Sights.{IsSeen, Keeps, IsFreed, IsFree, IsCompleting, Acted, Served, Stays, Met, Joined, MaySplit, SplitInto};
+ghost use Rattle.cx_kinds.specs.Sights.{IsSeen, Keeps, IsFreed, IsFree, IsEnded, IsIdle, IsCompleting, Acted, Served, Stays, Met, Joined, MaySplit, SplitInto};
 
 use crate::shared::{Pooled, Shared};
 use crossbeam_utils::CachePadded;
@@ -85,19 +85,21 @@ impl<X: Shared> Seat<X> {
         item_of(o, by, ask, done)
     }
 
-    /// Gives back what the thread holds of the object, without an item. All of it, where as many changes are
-    /// left as that takes; else as much as they suffice for.
+    /// Gives back what the thread holds of the object, and ends what it has begun, without an item. All of it,
+    /// where as many changes are left as that takes; else as much as they suffice for.
     pub fn give_up<R: Wait>(&mut self, rt: &R)
         requires seen { IsSeen (KnowsSeat X.knows X.share X.start X.as_any self.old) }
         ensures object { self.new.object ≡ self.old.object }
         ensures seen { Keeps (KnowsSeat X.knows X.share X.start X.as_any self.old) (KnowsSeat X.knows X.share X.start X.as_any self.new) }
         ensures freed { IsFreed (KnowsSeat X.knows X.share X.start X.as_any self.old) (X.kept self.old.token) (X.kept self.new.token) }
         ensures free { IsFree (KnowsSeat X.knows X.share X.start X.as_any self.new) (X.kept self.new.token) }
+        ensures ended { IsEnded (KnowsSeat X.knows X.share X.start X.as_any self.old) (X.kept self.old.token) (X.begun self.old.token) (X.begun self.new.token) }
+        ensures idle { IsIdle (KnowsSeat X.knows X.share X.start X.as_any self.new) (X.begun self.new.token) }
     {
         self.object.give_up(rt, &mut self.token);
     }
 
-    /// Whether a completion is due after the history that the thread has seen.
+    /// Whether a completion by the thread is due after the history that it has seen.
     pub fn is_completing(&self) -> bool
         requires seen { IsSeen (KnowsSeat X.knows X.share X.start X.as_any self.now) }
         ensures { IsCompleting (KnowsSeat X.knows X.share X.start X.as_any self.now) result }

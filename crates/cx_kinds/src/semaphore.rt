@@ -1,5 +1,5 @@
 //! Semaphores [thread.sema.cnt].
-ghost use Rattle.std.specs.Prelude.{◌≡◌, ◌≤◌, ℕ, IfOk, refl};
+ghost use Rattle.std.specs.Prelude.{◌≡◌, ◌≤◌, ℕ, false, IfOk, refl};
 ghost use Rattle.std.proofs.Common.{sym, ◌∙◌};
 ghost use Rattle.cx_machine.specs.Machine as all;
 ghost use Rattle.cx_sync.specs.Sync.{IsSemaphorePassWith};
@@ -53,6 +53,8 @@ impl Shared for Semaphore {
     ghost start = { λ x. cell_start kept_state x.cell };
 
     ghost kept = { λ k. nothing };
+
+    ghost begun = { λ k. false };
 
     ghost serves = { λ h share ask. asks_semaphore ask.change ask.look ask.a ask.b };
 

@@ -1,9 +1,8 @@
 //! Objects that threads share.
-ghost use Rattle.std.specs.Prelude.{◌≡◌, ◌⊎◌, ◌≤◌, ℕ, Option, Some, IsSome};
+ghost use Rattle.std.specs.Prelude.{◌≡◌, ◌⊎◌, ◌+◌, ◌≤◌, ℕ, Bool, false, Option, Some, IsSome};
 ghost use Rattle.cx_names.specs.declared.ThreadNo.{ThreadNo};
 ghost use Rattle.cx_machine.specs.Machine.{State};
-ghost use Rattle.cx_machine.specs.Meaning.{run};
-ghost use Rattle.cx_history.specs.Follows.{is_completing};
+ghost use Rattle.cx_machine.specs.Meaning.{run, bit};
 ghost use Rattle.cx_turn.specs.declared.view.View.{View};
 ghost use Rattle.cx_turn.specs.Views.{split_left, split_right, less_share, given, both_of, having_met};
 ghost use Rattle.cx_items.specs.declared.kept.Kept.{Kept};
@@ -11,7 +10,7 @@ ghost use Rattle.cx_items.specs.Memory.{nothing};
 ghost use Rattle.cx_asks.specs.declared.ask.Ask.{Ask};
 ghost use Rattle.cx_kinds.specs.AnyKind.{IsKindOf};
 ghost use Rattle.cx_kinds.specs.Acts.{DoesAsk, IsKept, CanSplit};
-ghost use Rattle.cx_kinds.specs.Holding.{changes_back};
+ghost use Rattle.cx_kinds.specs.Holding.{changes_back, owes_completion};
 ghost use Rattle.cx_kinds.specs.Seats.{IsRight};
 ghost use Rattle.cx_kinds.specs.Sights.{IsOfSame};
 
@@ -43,6 +42,9 @@ pub trait Shared: Drop {
 
     /// What the token holds of the object, in the words of what a thread remembers.
     ghost kept: { Self.Token → Kept };
+
+    /// Whether the thread has begun what others wait for: the function of a once flag, or a completion.
+    ghost begun: { Self.Token → Bool };
 
     /// With so much held, and this share, this may be asked of the object.
     ghost serves: { Kept → ℕ → Ask → Type 0 };
@@ -86,18 +88,20 @@ pub trait Shared: Drop {
         ensures from { (v : View Self.M) → knows self.now from.old v → knows self.now from.new v }
         ensures to { (v w : View Self.M) → knows self.now from.old v → knows self.now to.old w → knows self.now to.new (having_met w v) };
 
-    /// Gives back what the token holds, without an item. All of it, where as many changes are left as that
-    /// takes; else as much as they suffice for.
+    /// Gives back what the token holds, and ends what its thread has begun, without an item. All of it, where
+    /// as many changes are left as that takes; else as much as they suffice for.
     fn give_up<R: Wait>(&self, rt: &R, token: &mut Self::Token)
         requires token { (v : View Self.M) × knows self.now token.old v }
         ensures seen { (v : View Self.M) → knows self.now token.old v → (w : View Self.M) × knows self.now token.new w × IsOfSame v w }
         ensures freed { (v : View Self.M) → knows self.now token.old v → changes_back (kept token.old) ≤ v.left → kept token.new ≡ nothing }
-        ensures free { (w : View Self.M) → knows self.now token.new w → (kept token.new ≡ nothing) ⊎ (w.left ≡ 0) };
+        ensures free { (w : View Self.M) → knows self.now token.new w → (kept token.new ≡ nothing) ⊎ (w.left ≡ 0) }
+        ensures ended { (v : View Self.M) → knows self.now token.old v → changes_back (kept token.old) + bit (begun token.old) ≤ v.left → begun token.new ≡ false }
+        ensures idle { (w : View Self.M) → knows self.now token.new w → (begun token.new ≡ false) ⊎ (w.left ≡ 0) };
 
-    /// Whether a completion is due after the history that the token has seen.
+    /// Whether a completion by the token's thread is due after the history that it has seen.
     fn is_completing(&self, token: &Self::Token) -> bool
         requires token { (v : View Self.M) × knows self.now token.now v }
-        ensures { (v : View Self.M) (m : Self.M) → knows self.now token.now v → run Self.M.Meaning.step (Some v.start) v.front ≡ Some m → result ≡ is_completing (Some (as_any m)) };
+        ensures { (v : View Self.M) (m : Self.M) → knows self.now token.now v → run Self.M.Meaning.step (Some v.start) v.front ≡ Some m → result ≡ owes_completion v.number (Some (as_any m)) };
 
     /// What holds of each view that a token has seen.
     ghost right: { (x : Self) (k : Self.Token) (v : View Self.M) → knows x k v → IsRight Self.M.Meaning knows number share start x k v };
