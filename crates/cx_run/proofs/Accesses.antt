@@ -7,7 +7,7 @@ use Rattle.cx_fronts.specs.Paths.{Fronts, Grows}
 use Rattle.cx_kinds.specs.declared.access.Access.{Access}
 use Rattle.cx_kinds.specs.Accesses.{RunObject}
 use Rattle.cx_work.specs.Accesses.{IsAccess, Shows, AreAccesses, AreShown}
-use Rattle.cx_run.specs.Handing.{HasTaken, IsSplit, IsBoth, IsAsBefore, HasMet, TakesIn, EachGoes, AllAsBefore, AllMet, AllTakeIn, HaveTaken}
+use Rattle.cx_run.specs.Handing.{IsSplit, IsBoth, IsAsBefore, HasMet, TakesIn, EachGoes, AllAsBefore, AllMet, AllTakeIn, HaveTaken}
 use Rattle.cx_run.proofs.Meeting.{same_access, same_shows, same_has_taken, same_split, met_access, met, took_access, took, took_it, took_more_of, took_split}
 
 below : {A : Type 0} (xs : List A) (o : ℕ) (x : A) → slice_get xs o ≡ Some x → o < length xs

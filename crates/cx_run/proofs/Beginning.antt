@@ -1,29 +1,32 @@
 -- A run as it is prepared: nobody was started, and nothing is seen.
-use Rattle.std.proofs.Common.{◌≡◌, ℕ, zero, suc, ◌+◌, ◌-◌, ◌<◌, Bool, false, List, [], ◌∷◌, ◌++◌, length, get_or, slice_get, ◌==◌, Some, refl, sym, ap, ◌∙◌, subst, arith}
-use Rattle.std.proofs.lemmas.Bool.{eqb-false}
+use Rattle.std.proofs.Common.{◌≡◌, ℕ, zero, suc, ◌+◌, ◌-◌, ◌<◌, ◌≤◌, List, [], ◌∷◌, ◌++◌, length, get_or, slice_get, Some, refl, sym, ap, ◌∙◌, subst, arith}
 use Rattle.std.specs.Global.{Vec}
 use Rattle.std.specs.List.{remove}
 use Rattle.cx_names.specs.declared.ThreadNo.{ThreadNo}
 use Rattle.cx_scene.specs.Scene.{Scene}
+use Rattle.cx_items.specs.declared.item.Item.{Item}
+use Rattle.cx_asks.specs.Scenes.{IsAskable}
 use Rattle.cx_fronts.specs.Paths.{nothing}
 use Rattle.cx_fronts.proofs.Heart.{stays}
 use Rattle.cx_machine.specs.Machine.{State}
 use Rattle.cx_turn.specs.declared.view.View.{View}
 use Rattle.cx_kinds.specs.declared.access.Access.{Access}
-use Rattle.cx_kinds.specs.Accesses.{RunObject, Knows}
+use Rattle.cx_kinds.specs.Accesses.{RunObject}
 use Rattle.cx_work.specs.declared.objects.Objects.{Objects}
 use Rattle.cx_work.specs.declared.standing.Standing.{Standing}
 use Rattle.cx_work.specs.declared.work.Work.{Work}
 use Rattle.cx_work.specs.Accesses.{AreMadeAs, AreAccesses, objects_of}
 use Rattle.cx_work.specs.Bodies.{Needs, scene_in}
-use Rattle.cx_work.specs.RunNow.{IsRunNow, IsNewAccess, AreNew, AreAllNew}
+use Rattle.cx_work.specs.Reserves.{AreEnough}
+use Rattle.cx_work.specs.RunNow.{IsRunNow, IsNewAccess, AreNew, AreAllNew, AreShared}
 use Rattle.cx_work.specs.Steps.{IsAt}
 use Rattle.cx_work.proofs.Going.{same_view}
-use Rattle.cx_work.proofs.Newness.{new_are_accesses, new_show_nothing, new_objects}
+use Rattle.cx_work.proofs.Newness.{new_are_accesses, new_show_nothing, new_objects, new_are_enough, shares_suffice}
 use Rattle.cx_run.specs.declared.place.Place.{Place}
 use Rattle.cx_run.specs.declared.place.Place.TheVariants as places
 use Rattle.cx_run.specs.Handing.{IsSplit}
-use Rattle.cx_run.specs.Runs.{IsReady, IsPlace, RunOf, MayRun, IsRun, steps_at, steps_in}
+use Rattle.cx_run.specs.Runs.{IsReady, IsPlace, RunOf, MayRun, IsRun, IsMains, AreMains, steps_at, steps_in, running_at, running_in}
+use Rattle.cx_run.proofs.Keeping.{below}
 use Rattle.cx_run.proofs.Accesses.{at_same}
 use Rattle.cx_run.proofs.Passed.{read_at, IsTurn}
 
@@ -121,10 +124,29 @@ no_steps_first {G} s xs n others wait = go others (λ i p at_p. none_of (suc i) 
     go [] each = refl
     go (p ∷ ps) each = let rest = go ps (λ i. each (suc i)) in let first = each 0 p refl in omega (arith, rest, first)
 
--- ---- rows of accesses
+pub mains_first : {G : Type 0} (s : Scene) (xs : List RunObject) (n : ℕ) (list : List Item) (others : List (Place G)) → AllWait s xs n others → AreMains list others
+mains_first {G} s xs n list others wait i p at_p = go p (wait.each i p at_p)
+  where
+    go : (p : Place G) → Waits s xs (suc i) p → IsMains list (suc i) p
+    go (places.Waiting w) h = tt
+    go (places.Running thread) h = absurd h
+    go (places.Ended ys) h = absurd h
+    go places.Idle h = absurd h
 
-pub some_left : (b : Bool) (n : ℕ) → b ≡ (n == 0) → b ≡ false → 0 < n
-some_left b n is none_ = let ne = eqb-false n 0 (sym is ∙ none_) in omega (arith, ne)
+pub none_runs_first : {G : Type 0} (s : Scene) (xs : List RunObject) (n : ℕ) (others : List (Place G)) → AllWait s xs n others → running_in others ≡ 0
+none_runs_first {G} s xs n others wait = go others (λ i p at_p. none_of (suc i) p (wait.each i p at_p))
+  where
+    none_of : (u : ℕ) (p : Place G) → Waits s xs u p → running_at p ≡ 0
+    none_of u (places.Waiting w) h = refl
+    none_of u (places.Running thread) h = absurd h
+    none_of u (places.Ended ys) h = absurd h
+    none_of u places.Idle h = absurd h
+
+    go : (ps : List (Place G)) → ((i : ℕ) (p : Place G) → slice_get ps i ≡ Some p → running_at p ≡ 0) → running_in ps ≡ 0
+    go [] each = refl
+    go (p ∷ ps) each = let rest = go ps (λ i. each (suc i)) in let first = each 0 p refl in omega (arith, rest, first)
+
+-- ---- rows of accesses
 
 pub first_row : {A : Type 0} (ys : List A) (y : A) → 0 < length ys → y ≡ get_or ys 0 y → slice_get ys 0 ≡ Some y
 first_row ys y h e = read_at ys 0 y h e
@@ -151,6 +173,25 @@ pub row_made : (s : Scene) (xs : List RunObject) (threads : ℕ) (rows rest : Li
 row_made s xs threads rows rest n i ks new is turn made =
     let is_xs = new_objects xs threads (suc n) 131072 0 ks.items (row_new xs threads rows rest n i ks new is turn) in
     rw is_xs made
+
+-- suffice for its text
+pub row_enough : (s : Scene) (xs : List RunObject) (rows rest : List (Vec Access)) (n i t : ℕ) (ks : Vec Access) → IsAskable s → AreAllNew xs (length s.threads) rows → AreShared s rows → rest ≡ remove rows 0 → IsTurn rest n i ks → t ≡ i + 1 → AreEnough s t ks.items []
+row_enough s xs rows rest n i t ks asks new shared is turn is_t =
+    let number = turn.number in
+    let same : suc n ≡ t = omega (arith, number, is_t) in
+    let at_ks : slice_get rows (suc n) ≡ Some ks = after_first rows n ks (subst (λ (l : List (Vec Access)). slice_get l n ≡ Some ks) is turn.there) in
+    subst (λ m. AreEnough s m ks.items []) same (new_are_enough s xs (length s.threads) (suc n) 0 ks.items refl (row_new xs (length s.threads) rows rest n i ks new is turn) (shares_suffice s rows (suc n) ks asks new.count shared at_ks))
+
+pub main_enough : (s : Scene) (xs : List RunObject) (rows : List (Vec Access)) (ks : Vec Access) → IsAskable s → AreAllNew xs (length s.threads) rows → AreShared s rows → slice_get rows 0 ≡ Some ks → AreEnough s 0 ks.items []
+main_enough s xs rows ks asks new shared at_ks = new_are_enough s xs (length s.threads) 0 (length s.threads - 1) ks.items refl (new.main ks at_ks) (shares_suffice s rows 0 ks asks new.count shared at_ks)
+
+-- there are fewer than 64 of them
+pub turn_below : (threads : ℕ) (rows : Vec (Vec Access)) (rest : List (Vec Access)) (n i : ℕ) (ks : Vec Access) → length rows.items ≡ threads → threads ≤ 64 → rest ≡ remove rows.items 0 → IsTurn rest n i ks → i < 64
+turn_below threads rows rest n i ks count few is turn =
+    let number = turn.number in
+    let at_ks : slice_get rows.items (suc n) ≡ Some ks = after_first rows.items n ks (subst (λ (l : List (Vec Access)). slice_get l n ≡ Some ks) is turn.there) in
+    let low = below rows.items (suc n) ks at_ks in
+    omega (arith, number, low, count, few)
 
 module _ {G : Type 0} where
   -- one more thread waits

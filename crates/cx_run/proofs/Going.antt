@@ -1,5 +1,5 @@
 -- A run goes on with each item that main makes alone.
-use Rattle.std.proofs.Common.{◌≡◌, ℕ, true, List, [], ◌∷◌, ◌++◌, length, slice_get, Some, refl, sym, ap, ◌∙◌, subst}
+use Rattle.std.proofs.Common.{◌≡◌, ℕ, true, List, [], ◌∷◌, ◌++◌, length, slice_get, Some, sym, ap, ◌∙◌, subst}
 use Rattle.cx_machine.specs.Machine.{State}
 use Rattle.cx_turn.specs.declared.view.View.{View}
 use Rattle.cx_scene.specs.Scene.{Scene}
@@ -8,11 +8,11 @@ use Rattle.cx_items.specs.declared.item.Item.TheVariants as items
 use Rattle.cx_fronts.specs.Positions.{positions}
 use Rattle.cx_fronts.specs.Paths.{Fronts}
 use Rattle.cx_kinds.specs.declared.access.Access.{Access}
-use Rattle.cx_kinds.specs.Accesses.{RunObject, object_of, Knows}
+use Rattle.cx_kinds.specs.Accesses.{RunObject, object_of}
 use Rattle.cx_work.specs.Accesses.{AreMadeAs, IsAccess, AreAccesses, Made, objects_of}
 use Rattle.cx_work.specs.Steps.{ActsOn, StepsOn, is_made_alone}
 use Rattle.cx_work.proofs.Going.{same_view, remains}
-use Rattle.cx_work.proofs.Stepping.{access_at, objects_are}
+use Rattle.cx_work.proofs.Stepping.{access_at}
 use Rattle.cx_work.proofs.Promising.{steps_promise}
 use Rattle.cx_run.specs.declared.place.Place.{Place}
 use Rattle.cx_run.specs.Handing.{IsTaken, HasTaken, IsSplit, HaveTaken}

@@ -36,7 +36,7 @@ or_none : (a b : Bool) → b ≡ false → (a || b) ≡ a
 or_none true b h = refl
 or_none false b h = h
 
-or_one : (a b : Bool) → b ≡ true → (a || b) ≡ true
+pub or_one : (a b : Bool) → b ≡ true → (a || b) ≡ true
 or_one true b h = refl
 or_one false b h = h
 
@@ -52,7 +52,7 @@ starts_more : (v : ℕ) (xs : List Item) (x : Item) → any_starts v (xs ++ x �
 starts_more v [] x = no_more (starts v x)
 starts_more v (y ∷ xs) x = ap (λ b. starts v y || b) (starts_more v xs x) ∙ or_assoc (starts v y) (any_starts v xs) (starts v x)
 
-joins_more : (v : ℕ) (xs : List Item) (x : Item) → any_joins v (xs ++ x ∷ []) ≡ (any_joins v xs || joins v x)
+pub joins_more : (v : ℕ) (xs : List Item) (x : Item) → any_joins v (xs ++ x ∷ []) ≡ (any_joins v xs || joins v x)
 joins_more v [] x = no_more (joins v x)
 joins_more v (y ∷ xs) x = ap (λ b. joins v y || b) (joins_more v xs x) ∙ or_assoc (joins v y) (any_joins v xs) (joins v x)
 

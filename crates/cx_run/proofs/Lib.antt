@@ -1,6 +1,9 @@
 pub mod Meeting
 pub mod Accesses
 pub mod Keeping
+pub mod Lasting
+pub mod Joined
+pub mod Mains
 pub mod Ending
 pub mod Settled
 pub mod Going

@@ -1,10 +1,9 @@
 -- What is so of a run stays so, by its parts.
-use Rattle.std.proofs.Common.{◌≡◌, ◌⊎◌, inl, inr, ℕ, zero, suc, ◌+◌, ◌-◌, ◌<◌, Bool, true, false, List, [], ◌∷◌, ◌++◌, length, slice_get, slice_set, Option, Some, None, Result, Ok, Err, IfSome, MatchOption, get_or, refl, sym, ap, ◌∙◌, subst, arith}
+use Rattle.std.proofs.Common.{◌≡◌, ℕ, zero, suc, ◌+◌, ◌-◌, ◌<◌, Bool, true, false, List, [], ◌∷◌, ◌++◌, length, slice_get, slice_set, Option, Some, Result, Err, IfSome, IsSome, IsOk, get_or, refl, sym, ap, ◌∙◌, subst, arith}
 use Rattle.std.specs.Global.{Vec}
 use Rattle.std.specs.Vec.{with_items}
 use Rattle.std.proofs.lemmas.List.{with_items_is}
 use Rattle.cx_names.specs.declared.ThreadNo.{ThreadNo}
-use Rattle.cx_names.specs.declared.Errc.{Errc}
 use Rattle.cx_scene.specs.declared.plan.Plan.{Plan}
 use Rattle.cx_scene.specs.Scene.{Scene, scene_of}
 use Rattle.cx_items.specs.declared.item.Control.TheVariants as controls
@@ -31,9 +30,10 @@ use Rattle.cx_run.specs.declared.place.Place.{Place}
 use Rattle.cx_run.specs.declared.place.Place.TheVariants as places
 use Rattle.cx_run.specs.declared.run.Run.{Run}
 use Rattle.cx_run.specs.Handing.{AllAsBefore, AllMet, AllTakeIn}
-use Rattle.cx_run.specs.Runs.{Tally, IsTallied, IsReady, IsOff, IsBegun, MayRun, RunOf, IsAwaited, IsKept, IsRun, IsHere, steps_at, steps_in}
+use Rattle.cx_run.specs.Runs.{Tally, IsTallied, IsReady, IsOff, IsBegun, MayJoin, MayRun, MayAwait, IsOfJob, RunOf, IsAwaited, IsKept, IsRun, IsHere, steps_at, steps_in}
 use Rattle.cx_run.proofs.Going.{made_alone}
 use Rattle.cx_run.proofs.Keeping.{Stands, here, elsewhere, get_set, start_goes, refusal_goes, join_goes, idle_goes, late_goes}
+use Rattle.cx_run.proofs.Lasting.{same_enough, met_enough, took_enough}
 use Rattle.cx_run.proofs.Passed.{read_at}
 use Rattle.cx_run.proofs.Tallying.{tallied_more, tallied_alone, steps_set}
 use Rattle.cx_run.proofs.Accesses.{same_accesses, met_accesses, met_shown, took_accesses, same_later, took_later}
@@ -50,18 +50,8 @@ set_back [] i a b h = refl
 set_back (x ∷ xs) zero a b h = let same : x ≡ a = cc in ap (λ y. y ∷ xs) (sym same)
 set_back (x ∷ xs) (suc i) a b h = ap (λ ys. x ∷ ys) (set_back xs i a b h)
 
-if_some : {A : Type 0} (P : A → Type 0) (o : Option A) (x : A) → o ≡ Some x → P x → IfSome o P
-if_some P o x is h = rw is h
-
-from_some : {A : Type 0} (P : A → Type 0) (o : Option A) (x : A) → o ≡ Some x → IfSome o P → P x
+pub from_some : {A : Type 0} (P : A → Type 0) (o : Option A) (x : A) → o ≡ Some x → IfSome o P → P x
 from_some P o x is h = rw is at h
-
-is_some_or_none : {A : Type 0} (o : Option A) → (o ≡ None) ⊎ ((x : A) × (o ≡ Some x))
-is_some_or_none None = inl refl
-is_some_or_none (Some x) = inr (x, refl)
-
-two_ways : {T E : Type 0} (result : Result T E) (x : T) (e : E) → result ≡ Ok x → result ≡ Err e → ⊥
-two_ways result x e ok err = cc (ok, err)
 
 before_one : (u : ThreadNo) → 0 < u.0 → u.0 ≡ suc (u.0 - 1)
 before_one u h = omega (arith, h)
@@ -94,12 +84,12 @@ fronts_of : (xs : List RunObject) (t : ℕ) (ks : List Access) → AreAccesses x
 fronts_of xs t ks are = some_fronts t ks (own_of xs t ks are)
 
 pub same_at : (s : Scene) (xs : List RunObject) (t : ℕ) (ks ks' : List Access) (list : List Item) (l : Local) → AreAccesses xs t ks → AllAsBefore ks ks' → StandsAt s t ks list l → StandsAt s t ks' list l
-same_at s xs t ks ks' list l are same at_ = stands_later s t ks ks' list l (fronts_of xs t ks are) (λ f shown. same_later ks ks' f same shown) at_
+same_at s xs t ks ks' list l are same at_ = stands_later s t ks ks' list l (fronts_of xs t ks are) (λ f shown. same_later ks ks' f same shown) (same_enough s xs t ks ks' list are same) at_
 
 pub took_at : (s : Scene) (xs : List RunObject) (t u : ℕ) (others ks ks' : List Access) (list : List Item) (l : Local) → AreAccesses xs t ks → AreAccesses xs u others → AllTakeIn others ks ks' → StandsAt s t ks list l → StandsAt s t ks' list l
 took_at s xs t u others ks ks' list l are theirs takes at_ =
     let other = fronts_of xs u others theirs in
-    stands_later s t ks ks' list l (fronts_of xs t ks are) (λ f shown. took_later xs others ks ks' t u other.0 f theirs are takes other.1 shown) at_
+    stands_later s t ks ks' list l (fronts_of xs t ks are) (λ f shown. took_later xs others ks ks' t u other.0 f theirs are takes other.1 shown) (took_enough s xs t u others ks ks' list are theirs takes) at_
 
 -- where main stands, by equal parts
 pub met_stands : (p : Plan) (t : ThreadNo) (ks : Vec Access) (ws : List Access) (list : List Item) (l : Local) (q : Plan) → p ≡ q → t.0 ≡ 0 → (with_items ks ws).items ≡ ws → StandsAt (scene_of q) 0 ws list l → StandsAt (scene_of p) t.0 (with_items ks ws).items list l
@@ -110,7 +100,7 @@ joined_stands p q t ks list list' l l' is_p is_t is_list is_l at_ = rw (is_p, is
 
 met_at : (s : Scene) (xs : List RunObject) (t u : ℕ) (others ks ks' : List Access) (list : List Item) (l : Local) → AreAccesses xs t others → AreAccesses xs u ks → AllMet others ks ks' → StandsAt s u ks list l → StandsAt s u ks' list l
 met_at s xs t u others ks ks' list l theirs are meets at_ =
-    stands_later s u ks ks' list l (fronts_of xs u ks are) later at_
+    stands_later s u ks ks' list l (fronts_of xs u ks are) later (met_enough s xs t u others ks ks' list theirs are meets) at_
   where
     later : (f : Fronts) → AreShown ks f → (g : Fronts) × AreShown ks' g × Grows f g
     later f shown =
@@ -125,6 +115,24 @@ module _ {G : Type 0} where
       go : Stands ps i q j p → MayRun p
       go (here same is) = subst (λ (z : Place G). MayRun z) is new
       go (elsewhere apart still) = old j p still
+
+  -- a thread that runs at a place may be joined
+  pub runs_may : (p : Place G) (thread : Thread (Work G) Ended) → p ≡ places.Running thread → MayRun p → MayJoin thread
+  runs_may p thread is may = subst (λ (q : Place G). MayRun q) is may
+
+  -- the job of a thread that may be joined may be run
+  pub may_run_job : (thread : Thread (Work G) Ended) → MayJoin thread → IfSome (job_to_join thread) Needs
+  may_run_job thread may = subst (λ (o : Option (Work G)). IfSome o Needs) (sym may.to_join) may.needs
+
+  -- it is joined
+  pub may_be_joined : {O E : Type 0} (thread : Thread (Work G) Ended) (t : ThreadNo) (result : Result O E) → MayJoin thread → t.0 ≡ 0 → (IsSome (job_to_join thread) → (t ≡ thread.number → ⊥) → IsOk result) → IsOk result
+  may_be_joined thread t result may main joined =
+      let some : IsSome (job_to_join thread) = subst (λ (o : Option (Work G)). IsSome o) (sym may.to_join) refl in
+      joined some (λ same. let other = may.other in let number = ap (λ (u : ThreadNo). u.0) same in omega (arith, other, number, main))
+
+  -- so no join of it is refused
+  pub never_refused : {O E : Type 0} (thread : Thread (Work G) Ended) (t : ThreadNo) (result : Result O E) (e : E) → MayJoin thread → t.0 ≡ 0 → (IsSome (job_to_join thread) → (t ≡ thread.number → ⊥) → IsOk result) → result ≡ Err e → ⊥
+  never_refused {O} {E} thread t result e may main joined is = let ok : IsOk {T = O} (Err e) = subst (λ (r : Result O E). IsOk r) is (may_be_joined thread t result may main joined) in cc ok
 
   -- ---- runs of the same parts
 
@@ -200,9 +208,9 @@ module _ {G : Type 0} where
   pub ready_accesses : (s : Scene) (xs : List RunObject) (u : ℕ) (w : Work G) → IsReady s xs u w → AreAccesses xs u w.standing.accesses.items
   ready_accesses s xs u w ready = subst (λ (os : List RunObject). AreAccesses os u w.standing.accesses.items) ready.objects (subst (λ n. AreAccesses (objects_in w) n w.standing.accesses.items) ready.number ready.needs.accesses)
 
-  -- the job of a thread that runs may be run, on this scene and these objects
-  pub off_job : (s : Scene) (xs : List RunObject) (u : ℕ) (first : Fronts) (thread : Thread (Work G) Ended) → IsOff s xs u first thread → IfSome (job_to_join thread) (λ w. Needs w × (scene_in w.objects ≡ s) × (objects_in w ≡ xs))
-  off_job s xs u first thread off = if_some (λ (w : Work G). Needs w × (scene_in w.objects ≡ s) × (objects_in w ≡ xs)) (job_to_join thread) off.job off.to_join (off.needs, off.scene, off.objects)
+  -- a thread that runs may be joined, and its job is of this scene on these objects
+  pub off_may : (s : Scene) (xs : List RunObject) (u : ℕ) (first : Fronts) (thread : Thread (Work G) Ended) → 0 < u → IsOff s xs u first thread → MayAwait s xs thread
+  off_may s xs u first thread above off = record { may = record { other = let n = off.number in omega (arith, n, above); job = off.job; to_join = off.to_join; needs = off.needs }; scene = off.scene; objects = off.objects }
 
   -- ---- starts
 
@@ -219,6 +227,7 @@ module _ {G : Type 0} where
       let is : objects_of theirs ≡ objects_in w = objects_are (objects_in w) w.standing.thread.0 theirs are in
       record {
         asks = rw n.objects needs.asks;
+        other = rw n.thread needs.other;
         made = rw (n.objects, n.accesses, is) needs.made;
         accesses = rw (n.thread, n.accesses, is) are;
         at_ = rw (n.objects, n.thread, n.accesses, n.list, n.local) at_;
@@ -264,10 +273,10 @@ module _ {G : Type 0} where
       }))
   begun_goes s xs list ks ks' theirs others i u w w' ok p u_is r at_p mine ready same meets n needs is begun = absurd begun
 
-  begun_may : (u : ThreadNo) (w : Work G) (ok : Bool) (p : Place G) → Needs w → IsBegun u w ok p → MayRun p
-  begun_may u w true (places.Running thread) needs begun = if_some Needs (job_to_join thread) w begun.1 needs
-  begun_may u w false (places.Waiting kept) needs begun = tt
-  begun_may u w ok p needs begun = absurd begun
+  begun_may : (u : ThreadNo) (w : Work G) (ok : Bool) (p : Place G) → 0 < u.0 → Needs w → IsBegun u w ok p → MayRun p
+  begun_may u w true (places.Running thread) above needs begun = record { other = subst (λ (t : ThreadNo). 0 < t.0) (sym begun.0) above; job = w; to_join = begun.1; needs = needs }
+  begun_may u w false (places.Waiting kept) above needs begun = tt
+  begun_may u w ok p above needs begun = absurd begun
 
   begun_steps : (u : ThreadNo) (w : Work G) (ok : Bool) (p : Place G) → IsBegun u w ok p → steps_at p ≡ 0
   begun_steps u w true (places.Running thread) begun = refl
@@ -280,7 +289,7 @@ module _ {G : Type 0} where
       let needs = met_needs (scene_in r.objects) xs (suc (u.0 - 1)) r.main.accesses.items theirs w w' ready run.kept.accesses meets n in
       let set_ : r'.others.items ≡ slice_set r.others.items (u.0 - 1) p = others ∙ (ap (λ (l : List (Place G)). slice_set l (u.0 - 1) p) h.is ∙ set_twice r.others.items (u.0 - 1) places.Idle p) in
       kept_of r r' a b (same_accesses xs r.main.accesses.items r'.main.accesses.items 0 same run.kept.accesses)
-      (λ i q at_q. may_set r.others.items (u.0 - 1) p (begun_may u w' ok p needs begun) run.kept.may_run i q (ap (λ (l : List (Place G)). slice_get l i) (sym set_) ∙ at_q))
+      (λ i q at_q. may_set r.others.items (u.0 - 1) p (begun_may u w' ok p h.above needs begun) run.kept.may_run i q (ap (λ (l : List (Place G)). slice_get l i) (sym set_) ∙ at_q))
       run.kept
 
   pub begun_run : {xs : List RunObject} (r r' : Run G) (u : ThreadNo) (w w' : Work G) (theirs : List Access) (mid : List (Place G)) (ok : Bool) (p : Place G) → IsRun xs r → IsHere u.0 (places.Waiting w) r.others.items mid → AllAsBefore r.main.accesses.items r'.main.accesses.items → AllMet r.main.accesses.items w.standing.accesses.items theirs → IsRenewed w w' theirs → IsBegun u w' ok p → r'.objects ≡ r.objects → r'.main.thread ≡ r.main.thread → r'.others.items ≡ slice_set mid (u.0 - 1) p → r'.main.list.items ≡ r.main.list.items ++ items.Control (controls.Start u ok) ∷ [] → IsAt (scene_in r.objects) r'.main → IsRun xs r'
@@ -399,14 +408,8 @@ module _ {G : Type 0} where
         body = λ whole. subst (λ (z : Scene). IsBody z w.standing.thread.0 w.standing.accesses.items e.list.items e.accesses.items) same.0 (subst (λ n. IsBody (scene_in w.objects) n w.standing.accesses.items e.list.items e.accesses.items) number (g.body whole));
       }
 
-  pub given_of : (s : Scene) (xs : List RunObject) (thread : Thread (Work G) Ended) (e : Ended) (result : Result Ended Errc) (fault : Errc) → result ≡ Ok e → (job_to_join thread ≡ None → result ≡ Err fault) → IfSome (job_to_join thread) (λ w. Needs w × (scene_in w.objects ≡ s) × (objects_in w ≡ xs)) → IfSome (job_to_join thread) (λ w. Gives w e) → HasGiven s xs thread e
-  given_of s xs thread e result fault is none_ owed gives = go (is_some_or_none (job_to_join thread))
-    where
-      go : (job_to_join thread ≡ None) ⊎ ((w : Work G) × (job_to_join thread ≡ Some w)) → HasGiven s xs thread e
-      go (inl gone) = absurd (two_ways result e fault is (none_ gone))
-      go (inr a) =
-          let known = from_some (λ (w : Work G). Needs w × (scene_in w.objects ≡ s) × (objects_in w ≡ xs)) (job_to_join thread) a.0 a.1 owed in
-          given_by s xs thread e a.0 a.1 (known.1, known.2) (from_some (λ (w : Work G). Gives w e) (job_to_join thread) a.0 a.1 gives)
+  pub given_of : (s : Scene) (xs : List RunObject) (thread : Thread (Work G) Ended) (e : Ended) → MayAwait s xs thread → IsOfJob thread e → HasGiven s xs thread e
+  given_of s xs thread e a gives = given_by s xs thread e a.may.job a.may.to_join (a.scene, a.objects) (gives a.may.job a.may.to_join)
 
   -- main has taken in what the thread gave
   pub given_kept : {xs : List RunObject} (r r' : Run G) (thread : Thread (Work G) Ended) (e : Ended) (ws : List Access) → IsKept xs r → HasGiven (scene_in r.objects) xs thread e → AllTakeIn e.accesses.items r.main.accesses.items ws → r'.main.accesses.items ≡ ws → r'.objects ≡ r.objects → r'.main.thread ≡ r.main.thread → r'.others.items ≡ r.others.items → IsKept xs r'
@@ -428,16 +431,15 @@ module _ {G : Type 0} where
       kept_of r r' a b (subst (λ (l : List Access). AreAccesses xs 0 l) (sym c) kept.accesses)
       (λ j p at_p. may_set r.others.items i q may kept.may_run j p (ap (λ (l : List (Place G)). slice_get l j) (sym d) ∙ at_p)) kept
 
-  idle_may : (q : Place G) → q ≡ places.Idle → MayRun q
+  pub idle_may : (q : Place G) → q ≡ places.Idle → MayRun q
   idle_may q is = subst (λ (z : Place G). MayRun z) (sym is) tt
 
   pub left_kept : {xs : List RunObject} (r r' : Run G) (i : ℕ) (q : Place G) → IsKept xs r → q ≡ places.Idle → r'.objects ≡ r.objects → r'.main.thread ≡ r.main.thread → r'.main.accesses.items ≡ r.main.accesses.items → r'.others.items ≡ slice_set r.others.items i q → IsKept xs r'
   left_kept {xs} r r' i q kept is = set_kept r r' i q kept (idle_may q is)
 
   -- the place of a thread was left, whichever it was
-  pub any_left_kept : {xs : List RunObject} (r r' : Run G) (u : ThreadNo) (result : Option (Place G)) → IsKept xs r → (r'.objects ≡ r.objects) × (r'.main ≡ r.main) → MatchOption result (r'.others ≡ r.others) (λ p. IsHere u.0 p r.others.items r'.others.items) → IsKept xs r'
-  any_left_kept {xs} r r' u None kept same h = same_kept r r' same.0 (ap (λ (x : Standing). x.thread) same.1) (ap (λ (x : Standing). x.accesses.items) same.1) (ap (λ (v : Vec (Place G)). v.items) h) kept
-  any_left_kept {xs} r r' u (Some p) kept same h = set_kept r r' (u.0 - 1) places.Idle kept tt same.0 (ap (λ (x : Standing). x.thread) same.1) (ap (λ (x : Standing). x.accesses.items) same.1) h.is
+  pub any_left_kept : {xs : List RunObject} (r r' : Run G) (u : ThreadNo) (p : Place G) → IsKept xs r → (r'.objects ≡ r.objects) × (r'.main ≡ r.main) → IsHere u.0 p r.others.items r'.others.items → IsKept xs r'
+  any_left_kept {xs} r r' u p kept same h = set_kept r r' (u.0 - 1) places.Idle kept tt same.0 (ap (λ (x : Standing). x.thread) same.1) (ap (λ (x : Standing). x.accesses.items) same.1) h.is
 
   pub waits_at : {xs : List RunObject} (r : Run G) (i : ℕ) (w : Work G) → IsRun xs r → slice_get r.others.items i ≡ Some (places.Waiting w) → IsReady (scene_in r.objects) xs (suc i) w
   waits_at {xs} r i w run at_p = (run.goes.places i (places.Waiting w) at_p).1

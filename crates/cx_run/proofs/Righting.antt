@@ -1,5 +1,5 @@
 -- A run whose threads have all come gives what is promised.
-use Rattle.std.proofs.Common.{◌≡◌, ℕ, zero, suc, ◌<◌, ◌≤◌, Bool, true, false, IsTrue, Result, Ok, Err, is_err, OnOk, List, length, slice_get, Option, Some, refl, ap, ◌∙◌, subst, arith}
+use Rattle.std.proofs.Common.{◌≡◌, ℕ, zero, suc, ◌<◌, Bool, true, false, IsTrue, Result, Ok, Err, is_err, OnOk, List, length, slice_get, Option, Some, refl, ap, ◌∙◌, subst, arith}
 use Rattle.cx_turn.specs.Views.{IsIn}
 use Rattle.cx_scene.specs.Scene.{Scene}
 use Rattle.cx_items.specs.declared.item.Item.{Item}

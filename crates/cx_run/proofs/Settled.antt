@@ -40,7 +40,7 @@ module _ (k : Access) (v : View State) (knows : Knows k v) where
   access_legal : (d : Object) → IsMadeAs d (object_of k) → IsLegal (kind_of d) v.front
   access_legal d made =
       let m = knows.known.legal in
-      let leads : runs step (Some (opening (kind_of d))) v.front ≡ Some m.0 = subst (λ (s : State). runs step (Some s) v.front ≡ Some m.0) (knows.started ∙ made) m.1 in
+      let leads : runs step (Some (opening (kind_of d))) v.front ≡ Some m.0 = subst (λ (s : State). runs step (Some s) v.front ≡ Some m.0) (knows.started ∙ made.opens_so) m.1 in
       ap is_some (run_is v.front (opening (kind_of d)) ∙ leads)
 
   access_gone : (u : ℕ) (ps : List ℕ) → IsTaken v.taken u ps → positions u 0 v.front ≡ ps

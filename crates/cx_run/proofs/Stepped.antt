@@ -14,7 +14,7 @@ use Rattle.cx_items.specs.declared.item.Control.TheVariants as controls
 use Rattle.cx_items.specs.declared.item.Item.{Item}
 use Rattle.cx_items.specs.declared.item.Item.TheVariants as items
 use Rattle.cx_items.specs.declared.local.Local.{Local as Place_}
-use Rattle.cx_items.specs.Next.{Local, is_ended}
+use Rattle.cx_items.specs.Next.{Local, settled_local, is_ended}
 use Rattle.cx_items.specs.Steps.{local_of}
 use Rattle.cx_asks.specs.Forms.{is_of_one}
 use Rattle.cx_asks.specs.Offers.{IsOffer}
@@ -26,7 +26,7 @@ use Rattle.cx_kinds.specs.declared.access.Access.{Access}
 use Rattle.cx_work.specs.Bodies.{scene_in}
 use Rattle.cx_asks.specs.Scenes.{is_thread_now}
 use Rattle.cx_work.specs.RunNow.{IsRunNow}
-use Rattle.cx_work.specs.Steps.{IsAt, IsNext, StepsOn, forms_at, is_made_alone}
+use Rattle.cx_work.specs.Steps.{IsAt, IsNext, StepsOn, begins_control, forms_at, is_made_alone}
 use Rattle.cx_work.specs.Accesses.{AreAccesses, objects_of}
 use Rattle.cx_work.proofs.Stepping.{objects_are}
 use Rattle.cx_run.specs.declared.place.Place.{Place}
@@ -150,21 +150,30 @@ launch_not_offered s t l (forms.Does (controls.Join v) ∷ fs) u ok is offer = c
 launch_not_offered s t l (f ∷ fs) u ok is offer = cc is
 
 module _ {G : Type 0} {xs : List RunObject} (r : Run G) (run : IsRun xs r) where
-  main_offer : IsOffer (scene_in r.objects) 0 (local_of (scene_in r.objects) 0 r.main.local) (forms_at (scene_in r.objects) 0 r.main.local)
+  main_offer : IsOffer (scene_in r.objects) 0 (settled_local (local_of (scene_in r.objects) 0 r.main.local)) (forms_at (scene_in r.objects) 0 r.main.local)
   main_offer = offer_at (scene_in r.objects) 0 r.main.accesses.items r.main.list.items r.main.local run.runs_now.asks (own_as xs r.main.accesses.items r.main.accesses.items 0 refl run.kept.accesses) (at_zero run)
 
-  offered_so : (fs : List Form) → fs ≡ forms_at (scene_in r.objects) 0 r.main.local → IsOffer (scene_in r.objects) 0 (local_of (scene_in r.objects) 0 r.main.local) fs
-  offered_so fs is = subst (λ (gs : List Form). IsOffer (scene_in r.objects) 0 (local_of (scene_in r.objects) 0 r.main.local) gs) (sym is) main_offer
+  offered_so : (fs : List Form) → fs ≡ forms_at (scene_in r.objects) 0 r.main.local → IsOffer (scene_in r.objects) 0 (settled_local (local_of (scene_in r.objects) 0 r.main.local)) fs
+  offered_so fs is = subst (λ (gs : List Form). IsOffer (scene_in r.objects) 0 (settled_local (local_of (scene_in r.objects) 0 r.main.local)) gs) (sym is) main_offer
 
   -- a start that comes next, or a join, is offered so
   pub start_is : (fs gs : List Form) (u : ThreadNo) (ok : Bool) (o : Option Control) → fs ≡ forms_at (scene_in r.objects) 0 r.main.local → gs ≡ fs → IsControlIn gs o → o ≡ Some (controls.Start u ok) → forms_at (scene_in r.objects) 0 r.main.local ≡ forms.Does (controls.Start u true) ∷ forms.Does (controls.Start u false) ∷ []
-  start_is fs gs u ok o is same first is_o = sym is ∙ start_offered (scene_in r.objects) 0 (local_of (scene_in r.objects) 0 r.main.local) fs u ok (subst (λ (hs : List Form). IsControlIn hs (Some (controls.Start u ok))) same (subst (λ (q : Option Control). IsControlIn gs q) is_o first)) (offered_so fs is)
+  start_is fs gs u ok o is same first is_o = sym is ∙ start_offered (scene_in r.objects) 0 (settled_local (local_of (scene_in r.objects) 0 r.main.local)) fs u ok (subst (λ (hs : List Form). IsControlIn hs (Some (controls.Start u ok))) same (subst (λ (q : Option Control). IsControlIn gs q) is_o first)) (offered_so fs is)
 
   pub join_is : (fs gs : List Form) (u : ThreadNo) (o : Option Control) → fs ≡ forms_at (scene_in r.objects) 0 r.main.local → gs ≡ fs → IsControlIn gs o → o ≡ Some (controls.Join u) → forms_at (scene_in r.objects) 0 r.main.local ≡ forms.Does (controls.Join u) ∷ []
-  join_is fs gs u o is same first is_o = sym is ∙ join_offered (scene_in r.objects) 0 (local_of (scene_in r.objects) 0 r.main.local) fs u (subst (λ (hs : List Form). IsControlIn hs (Some (controls.Join u))) same (subst (λ (q : Option Control). IsControlIn gs q) is_o first)) (offered_so fs is)
+  join_is fs gs u o is same first is_o = sym is ∙ join_offered (scene_in r.objects) 0 (settled_local (local_of (scene_in r.objects) 0 r.main.local)) fs u (subst (λ (hs : List Form). IsControlIn hs (Some (controls.Join u))) same (subst (λ (q : Option Control). IsControlIn gs q) is_o first)) (offered_so fs is)
 
   pub launch_is_not : (fs gs : List Form) (u : ThreadNo) (ok : Bool) (o : Option Control) → fs ≡ forms_at (scene_in r.objects) 0 r.main.local → gs ≡ fs → IsControlIn gs o → o ≡ Some (controls.Launch u ok) → ⊥
-  launch_is_not fs gs u ok o is same first is_o = launch_not_offered (scene_in r.objects) 0 (local_of (scene_in r.objects) 0 r.main.local) fs u ok (subst (λ (hs : List Form). IsControlIn hs (Some (controls.Launch u ok))) same (subst (λ (q : Option Control). IsControlIn gs q) is_o first)) (offered_so fs is)
+  launch_is_not fs gs u ok o is same first is_o = launch_not_offered (scene_in r.objects) 0 (settled_local (local_of (scene_in r.objects) 0 r.main.local)) fs u ok (subst (λ (hs : List Form). IsControlIn hs (Some (controls.Launch u ok))) same (subst (λ (q : Option Control). IsControlIn gs q) is_o first)) (offered_so fs is)
+
+-- no start and no join comes first
+pub no_control : (fs gs : List Form) (o : Option Control) → gs ≡ fs → IsControlIn gs o → o ≡ None → begins_control fs ≡ false
+no_control fs gs o same first is = go fs (subst (λ (hs : List Form). IsControlIn hs None) same (subst (λ (q : Option Control). IsControlIn gs q) is first))
+  where
+    go : (hs : List Form) → IsControlIn hs None → begins_control hs ≡ false
+    go [] h = refl
+    go (forms.Does c ∷ hs) h = cc h
+    go (f ∷ hs) h = refl
 
 -- ---- by the plan that is at hand
 
@@ -182,8 +191,16 @@ pub taken_fits : (p q : Plan) (t : ThreadNo) (l l' : Place_) (fs : List Form) (x
 taken_fits p q t l l' fs x is_p is_t is_l offered fits = rw (is_p, is_t, is_l, offered) fits
 
 -- what is next is so where main still stands
-pub main_next : (p q : Plan) (t : ThreadNo) (l l' : Place_) (there : Bool) (fs : List Form) → there ≡ true → p ≡ q → t.0 ≡ 0 → l' ≡ l → IsNext (scene_of p) t.0 l there fs → fs ≡ forms_at (scene_of q) 0 l'
-main_next p q t l l' there fs is is_p is_t is_l next = rw (is_l, sym is_p, sym is_t) (subst (λ (b : Bool). IsNext (scene_of p) t.0 l b fs) is next)
+pub main_next : (p q : Plan) (t : ThreadNo) (l l' : Place_) (there : Bool) (fs : List Form) → there ≡ true → p ≡ q → t.0 ≡ 0 → l' ≡ l → IsNext (scene_of p) t.0 l there fs → IsNext (scene_of q) 0 l' true fs
+main_next p q t l l' there fs is is_p is_t is_l next =
+    subst (λ n. IsNext (scene_of q) n l' true fs) is_t
+    (subst (λ (z : Plan). IsNext (scene_of z) t.0 l' true fs) is_p
+    (subst (λ (k : Place_). IsNext (scene_of p) t.0 k true fs) (sym is_l)
+    (subst (λ (b : Bool). IsNext (scene_of p) t.0 l b fs) is next)))
+
+-- the same by the plan and the number of main
+pub next_as : (p q : Plan) (t : ThreadNo) (l : Place_) (fs : List Form) → p ≡ q → t.0 ≡ 0 → IsNext (scene_of q) 0 l true fs → IsNext (scene_of p) t.0 l true fs
+next_as p q t l fs is_p is_t next = subst (λ n. IsNext (scene_of p) n l true fs) (sym is_t) (subst (λ (z : Plan). IsNext (scene_of z) 0 l true fs) (sym is_p) next)
 
 pub main_ended : (p q : Plan) (t : ThreadNo) (l l' : Place_) (there : Bool) (fs : List Form) → there ≡ false → p ≡ q → t.0 ≡ 0 → l' ≡ l → IsNext (scene_of p) t.0 l there fs → IsTrue (is_ended (local_of (scene_of q) 0 l'))
 main_ended p q t l l' there fs is is_p is_t is_l next =

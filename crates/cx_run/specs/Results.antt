@@ -1,5 +1,5 @@
 -- What a run comes to.
-use Rattle.std.specs.Prelude.{◌≡◌, ℕ, suc, ◌+◌, ◌<◌, ◌≤◌, List, [], ◌∷◌, length, slice_get, Option, Some}
+use Rattle.std.specs.Prelude.{◌≡◌, ℕ, suc, ◌+◌, ◌<◌, List, [], ◌∷◌, length, slice_get, Option, Some}
 use Rattle.cx_turn.specs.Views.{IsIn}
 use Rattle.cx_scene.specs.Scene.{Scene}
 use Rattle.cx_items.specs.declared.item.Item.{Item}

@@ -1,5 +1,5 @@
 -- What is so of a run, while main's list grows and at its end.
-use Rattle.std.specs.Prelude.{◌≡◌, ℕ, suc, ◌+◌, ◌-◌, ◌<◌, ◌≤◌, true, false, IsTrue, List, [], ◌∷◌, map, length, slice_get, slice_set, Option, Some, None, IfSome, Bool}
+use Rattle.std.specs.Prelude.{◌≡◌, ℕ, suc, ◌+◌, ◌-◌, ◌<◌, ◌≤◌, true, false, IsTrue, List, [], ◌∷◌, map, length, slice_get, slice_set, Option, Some, None, Bool}
 use Rattle.cx_names.specs.declared.ThreadNo.{ThreadNo}
 use Rattle.cx_machine.specs.Machine.{IsLegal}
 use Rattle.cx_scene.specs.declared.declared.Object.{Object}
@@ -29,7 +29,7 @@ use Rattle.cx_work.specs.declared.work.Work.{Work}
 use Rattle.cx_work.specs.declared.work.Ended.{Ended}
 use Rattle.cx_work.specs.Accesses.{AreMadeAs, AreAccesses, AreShown, objects_of}
 use Rattle.cx_work.specs.Steps.{IsAt}
-use Rattle.cx_work.specs.Bodies.{IsBody, Needs, scene_in, objects_in}
+use Rattle.cx_work.specs.Bodies.{IsBody, Needs, Gives, scene_in, objects_in}
 use Rattle.cx_work.specs.RunNow.{IsRunNow}
 use Rattle.cx_run.specs.declared.place.Place.{Place}
 use Rattle.cx_run.specs.declared.place.Place.TheVariants as places
@@ -66,6 +66,16 @@ pub record IsTallied (before now : Tally) (xs : List Item) (steps : ℕ) : Type 
   pub started : Raised before.started now.started (starts_in xs)
   pub carried : Raised before.carried now.carried steps
 
+-- since these counts of starts and joins, all threads that were started were joined but for n
+pub record AreOut (started joined started' joined' n : ℕ) : Type 0 where
+  pub ended : ℕ
+  pub starts : Raised started started' (ended + n)
+  pub joins : Raised joined joined' ended
+
+-- as many threads were joined as were started
+abbrev pub AreJoined : ℕ → ℕ → ℕ → ℕ → Type 0
+AreJoined started joined started' joined' = AreOut started joined started' joined' 0
+
 -- ---- threads other than main
 
 -- the list of a thread's whole body, by what the thread had seen at its end
@@ -101,10 +111,28 @@ IsBegun u work true (places.Running thread) = (thread.number ≡ u) × (job_to_j
 IsBegun u work false (places.Waiting kept) = kept ≡ work
 IsBegun u work _ _ = ⊥
 
--- the job of a thread that was started may be run
+-- the thread is not main, and may be joined: its job may be run
+pub record MayJoin {G : Type 0} (thread : Thread (Work G) Ended) : Type 0 where
+  pub other : 0 < thread.number.0
+  pub job : Work G
+  pub to_join : job_to_join thread ≡ Some job
+  pub needs : Needs job
+
+module _ {G : Type 0} where
+  -- this is what the thread's job gave
+  abbrev pub IsOfJob : Thread (Work G) Ended → Ended → Type 0
+  IsOfJob thread e = (w : Work G) → job_to_join thread ≡ Some w → Gives w e
+
+-- a thread that was started may be joined
 abbrev pub MayRun : {G : Type 0} → Place G → Type 0
-MayRun (places.Running thread) = IfSome (job_to_join thread) Needs
+MayRun (places.Running thread) = MayJoin thread
 MayRun _ = Unit {0}
+
+-- it may be joined, and its job is of this scene on these objects
+pub record MayAwait {G : Type 0} (s : Scene) (xs : List RunObject) (thread : Thread (Work G) Ended) : Type 0 where
+  pub may : MayJoin thread
+  pub scene : scene_in may.job.objects ≡ s
+  pub objects : objects_in may.job ≡ xs
 
 -- ---- a thread that has ended
 
@@ -205,6 +233,16 @@ module _ {G : Type 0} where
   has_come places.Idle = true
   has_come _ = false
 
+  -- main's list tells of thread u's join where it has come
+  abbrev pub IsMains : List Item → ℕ → Place G → Type 0
+  IsMains list u (places.Ended ys) = any_joins u list ≡ true
+  IsMains list u places.Idle = ⊥
+  IsMains list u _ = Unit {0}
+
+  -- so it does of every thread that has come
+  abbrev pub AreMains : List Item → List (Place G) → Type 0
+  AreMains list ps = (i : ℕ) (p : Place G) → slice_get ps i ≡ Some p → IsMains list (suc i) p
+
   -- one more has come, and the others are where they were
   abbrev pub HasComeAt : ℕ → List (Place G) → List (Place G) → Type 0
   HasComeAt i old new = (p : Place G) × (new ≡ slice_set old i p) × (has_come p ≡ true)
@@ -233,3 +271,24 @@ module _ {G : Type 0} where
   -- the spawner's counts went on as far as the run did
   abbrev pub KeepsTally : Run G → Tally → Run G → Tally → Type 0
   KeepsTally old before new now = (base : Tally) → IsTallied base before old.main.list.items (steps_in old.others.items) → IsTallied base now new.main.list.items (steps_in new.others.items)
+
+  abbrev pub is_waiting : Place G → Bool
+  is_waiting (places.Waiting work) = true
+  is_waiting _ = false
+
+  abbrev pub is_running : Place G → Bool
+  is_running (places.Running thread) = true
+  is_running _ = false
+
+  -- how many threads were started and not joined
+  abbrev pub running_at : Place G → ℕ
+  running_at (places.Running thread) = 1
+  running_at _ = 0
+
+  abbrev pub running_in : List (Place G) → ℕ
+  running_in [] = 0
+  running_in (p ∷ ps) = running_at p + running_in ps
+
+  -- the spawner's counts of starts and joins went on as the threads that run did
+  abbrev pub KeepsOut : List (Place G) → ℕ → ℕ → List (Place G) → ℕ → ℕ → Type 0
+  KeepsOut ps started joined ps' started' joined' = (a b : ℕ) → AreOut a b started joined (running_in ps) → AreOut a b started' joined' (running_in ps')

@@ -15,3 +15,33 @@ pub(crate) enum Place<G: Gate + Send + Sync> {
     /// It was never started, and its passes were taken in.
     Idle,
 }
+
+impl<G: Gate + Send + Sync> Place<G> {
+    ghost use Rattle.std.specs.Prelude.{◌≡◌, false, MatchOption};
+    ghost use Rattle.cx_run.specs.declared.place.Place.TheVariants as places;
+    ghost use Rattle.cx_run.specs.Runs.{is_waiting, is_running};
+
+    /// The work of a thread that was not started.
+    pub(crate) fn into_work(self) -> Option<Work<G>>
+        ensures { MatchOption result (is_waiting self ≡ false) (λ work. self ≡ places.Waiting work) }
+    {
+        match self {
+            Place::Waiting(work) => Some(work),
+            Place::Running(_) => None,
+            Place::Ended(_) => None,
+            Place::Idle => None,
+        }
+    }
+
+    /// The thread that is to be joined.
+    pub(crate) fn into_thread(self) -> Option<Thread<Work<G>>>
+        ensures { MatchOption result (is_running self ≡ false) (λ thread. self ≡ places.Running thread) }
+    {
+        match self {
+            Place::Running(thread) => Some(thread),
+            Place::Waiting(_) => None,
+            Place::Ended(_) => None,
+            Place::Idle => None,
+        }
+    }
+}

@@ -1,18 +1,17 @@
 //! Main's list, with the threads that it starts and joins.
-ghost use Rattle.std.specs.Prelude.{◌≡◌, true, false, ◌-◌, ◌+◌, ◌<◌, ℕ, [], ◌∷◌, ◌++◌, length, slice_get, slice_set, Some, None, IfOk, IfSome, OnOk, MatchOption};
+ghost use Rattle.std.specs.Prelude.{◌≡◌, true, false, ◌-◌, ◌+◌, ◌<◌, ◌≤◌, ℕ, [], ◌∷◌, ◌++◌, length, vec_len, slice_get, slice_set, Some, None, IfOk, OnOk};
 ghost use Rattle.cx_items.specs.declared.form.Form.TheVariants as forms;
 ghost use Rattle.cx_items.specs.declared.item.Control.TheVariants as controls;
 ghost use Rattle.cx_items.specs.declared.item.Item.TheVariants as items;
 ghost use Rattle.cx_history.specs.Views.{listed, recorded_of};
 ghost use Rattle.cx_history.specs.Histories.{list_of as list_in};
-ghost use Rattle.cx_work.specs.Bodies.{Needs, scene_in, objects_in};
+ghost use Rattle.cx_work.specs.Bodies.{Needs, scene_in};
 ghost use Rattle.cx_fronts.specs.Counts.{change_count};
 ghost use Rattle.cx_io.specs.Spawning.{Raised};
-ghost use Rattle.cx_jthread.specs.Threads.{job_to_join};
-ghost use Rattle.cx_work.specs.RunNow.{IsRunNow, AreAllNew, objects_of_all};
-ghost use Rattle.cx_work.specs.Steps.{forms_at};
+ghost use Rattle.cx_work.specs.RunNow.{IsRunNow, AreAllNew, AreShared, objects_of_all};
+ghost use Rattle.cx_work.specs.Steps.{IsNext, forms_at};
 ghost use Rattle.cx_work.specs.Accesses.{AreMadeAs};
-ghost use Rattle.cx_run.specs.Runs.{IsBegun, IsTallied, IsControlIn, list_at, tally};
+ghost use Rattle.cx_run.specs.Runs.{IsBegun, IsTallied, IsControlIn, MayJoin, MayRun, IsOfJob, AreOut, running_at, list_at, tally};
 ghost use Rattle.cx_run.specs.Results.{IsRightRun, changes_elsewhere};
 
 use crate::handing::{meet_all, take_all_in};
@@ -40,11 +39,6 @@ pub(crate) struct Run<G: Gate + Send + Sync> {
     pub(crate) others: Vec<Place<G>>,
 }
 
-/// The answer where a text asks for what no scenario asks for.
-fn cannot_be() -> NoMemory {
-    NoMemory
-}
-
 /// The start or the join that comes next, by the first of these forms.
 fn control_in(forms: &[Form]) -> Option<Control>
     ensures { IsControlIn forms.now result }
@@ -56,11 +50,11 @@ fn control_in(forms: &[Form]) -> Option<Control>
 }
 
 /// The number of the thread at this place.
-fn after(place: usize) -> Result<ThreadNo, NoMemory>
-    ensures { IfOk result (λ t. t.0 ≡ place + 1) }
+fn after(place: usize) -> ThreadNo
+    requires { place < 64 }
+    ensures { result.0 ≡ place + 1 }
 {
-    let place = u32::try_from(place).ok().ok_or(NoMemory)?;
-    Ok(ThreadNo(place.checked_add(1).ok_or(NoMemory)?))
+    ThreadNo(place as u32 + 1)
 }
 
 /// Starts a thread with this work, or keeps the work where no thread is to be had.
@@ -73,6 +67,7 @@ fn begin<G: Gate + Send + Sync, P: Spawner<Work<G>>, R: Threads + Wait + Copy + 
     requires needs { Needs work }
     ensures place { IsBegun u work result.1 result.0 }
     ensures tally { IsTallied (tally (P.faults spawner.old) (P.started spawner.old) (P.carried spawner.old)) (tally (P.faults spawner.new) (P.started spawner.new) (P.carried spawner.new)) (items.Control (controls.Start u result.1) ∷ []) 0 }
+    ensures joins { P.joined spawner.new ≡ P.joined spawner.old }
 {
     match Thread::start(rt, spawner, u, work) {
         Ok(thread) => (Place::Running(thread), true),
@@ -80,8 +75,46 @@ fn begin<G: Gate + Send + Sync, P: Spawner<Work<G>>, R: Threads + Wait + Copy + 
     }
 }
 
+/// Waits until a thread has ended, and gives what its body gave.
+fn await_thread<G: Gate + Send + Sync, P: Spawner<Work<G>>, R: Threads + Wait>(
+    rt: &R,
+    spawner: &mut P,
+    mut thread: Thread<Work<G>>,
+) -> Ended
+    requires may { MayJoin thread }
+    ensures gives { IsOfJob thread result }
+    ensures started { P.started spawner.new ≡ P.started spawner.old }
+    ensures joins { Raised (P.joined spawner.old) (P.joined spawner.new) 1 }
+    ensures faults { P.faults spawner.new ≡ P.faults spawner.old }
+    ensures carried { Raised (P.carried spawner.old) (P.carried spawner.new) result.made }
+{
+    match thread.join(rt, spawner, MAIN) {
+        Ok(ended) => ended,
+        Err(_) => unreachable!(),
+    }
+}
+
+/// Waits until the thread at this place has ended, where one runs.
+fn await_place<G: Gate + Send + Sync, P: Spawner<Work<G>>, R: Threads + Wait>(
+    rt: &R,
+    spawner: &mut P,
+    place: Place<G>,
+)
+    requires may { MayRun place }
+    ensures out { (a b n : ℕ) → AreOut a b (P.started spawner.old) (P.joined spawner.old) (n + running_at place) → AreOut a b (P.started spawner.new) (P.joined spawner.new) n }
+{
+    match place {
+        Place::Running(thread) => {
+            let _ = await_thread(rt, spawner, thread);
+        }
+        Place::Waiting(_) => {}
+        Place::Ended(_) => {}
+        Place::Idle => {}
+    }
+}
+
 impl<G: Gate + Send + Sync> Run<G> {
-    ghost use Rattle.cx_run.specs.Runs.{IsKept, IsRun, objects_at, IsAtEnd, AllHaveCome, KeepsTally, IsHere, HasComeAt, IsAwaited, steps_in};
+    ghost use Rattle.cx_run.specs.Runs.{IsKept, IsRun, objects_at, IsAtEnd, AllHaveCome, AreMains, KeepsTally, KeepsOut, AreOut, AreJoined, IsHere, HasComeAt, MayAwait, IsAwaited, steps_in, running_in};
 
     /// Everything that a run needs: main at the start of its body, and the work of each other thread.
     pub(crate) fn prepare(
@@ -93,24 +126,25 @@ impl<G: Gate + Send + Sync> Run<G> {
         requires runs { IsRunNow (scene_in objects.now) }
         requires made { AreMadeAs (scene_in objects.now).objects (objects_of_all passes.threads.items) }
         requires passes { AreAllNew (objects_of_all passes.threads.items) (length (scene_in objects.now).threads) passes.threads.items }
+        requires shares { AreShared (scene_in objects.now) passes.threads.items }
+        requires threads { (1 ≤ length (scene_in objects.now).threads) × (length (scene_in objects.now).threads ≤ 64) }
         ensures run { IfOk result (λ r. IsRun (objects_of_all passes.threads.items) r) }
         ensures objects { IfOk result (λ r. scene_in r.objects ≡ scene_in objects.now) }
         ensures list { IfOk result (λ r. (r.main.list.items ≡ []) × (steps_in r.others.items ≡ 0)) }
+        ensures mains { IfOk result (λ r. AreMains r.main.list.items r.others.items) }
+        ensures none_runs { IfOk result (λ r. running_in r.others.items ≡ 0) }
     {
         let mut threads = passes.threads;
-        if threads.is_empty() {
-            return Err(cannot_be());
-        }
         let accesses = threads.remove(0);
         let plan = &objects.plan;
-        let room = room_for(plan, MAIN)?;
+        let room = room_for(plan, MAIN);
         let main = Standing::start(alloc, plan, MAIN, accesses, room)?;
         let mut others = Vec::with_capacity(alloc, threads.len())?;
         for (i, accesses) in threads.into_iter().enumerate() {
             let work = Work::new(
                 alloc,
                 objects.share()?,
-                after(i)?,
+                after(i),
                 accesses,
                 Arc::try_clone(gate)?,
             )?;
@@ -131,10 +165,12 @@ impl<G: Gate + Send + Sync> Run<G> {
         gate: &G,
     ) -> Result<(), NoMemory>
         requires run { IsRun (objects_at self.old) self.old }
+        requires mains { AreMains self.old.main.list.items self.old.others.items }
         ensures objects { self.new.objects ≡ self.old.objects }
         ensures kept { IsKept (objects_at self.old) self.new }
         ensures run { OnOk result (IsRun (objects_at self.old) self.new) }
         ensures tally { OnOk result (KeepsTally self.old (tally (P.faults spawner.old) (P.started spawner.old) (P.carried spawner.old)) self.new (tally (P.faults spawner.new) (P.started spawner.new) (P.carried spawner.new))) }
+        ensures out { KeepsOut self.old.others.items (P.started spawner.old) (P.joined spawner.old) self.new.others.items (P.started spawner.new) (P.joined spawner.new) }
         ensures ended { OnOk result (IsAtEnd self.new) }
         ensures come { OnOk result (AllHaveCome self.new) }
     {
@@ -150,10 +186,12 @@ impl<G: Gate + Send + Sync> Run<G> {
         gate: &G,
     ) -> Result<(), NoMemory>
         requires run { IsRun (objects_at self.old) self.old }
+        requires mains { AreMains self.old.main.list.items self.old.others.items }
         ensures objects { self.new.objects ≡ self.old.objects }
         ensures kept { IsKept (objects_at self.old) self.new }
         ensures run { OnOk result (IsRun (objects_at self.old) self.new) }
         ensures tally { OnOk result (KeepsTally self.old (tally (P.faults spawner.old) (P.started spawner.old) (P.carried spawner.old)) self.new (tally (P.faults spawner.new) (P.started spawner.new) (P.carried spawner.new))) }
+        ensures out { KeepsOut self.old.others.items (P.started spawner.old) (P.joined spawner.old) self.new.others.items (P.started spawner.new) (P.joined spawner.new) }
         ensures ended { OnOk result (IsAtEnd self.new) }
     {
         for _ in rt.forever() {
@@ -173,12 +211,15 @@ impl<G: Gate + Send + Sync> Run<G> {
         rt: &R,
         spawner: &mut P,
     ) -> Result<Item, NoMemory>
-        requires next { self.old.main.forms.items ≡ forms_at (scene_in self.old.objects) 0 self.old.main.local }
+        requires next { IsNext (scene_in self.old.objects) 0 self.old.main.local true self.old.main.forms.items }
         requires run { IsRun (objects_at self.old) self.old }
+        requires mains { AreMains self.old.main.list.items self.old.others.items }
         ensures objects { self.new.objects ≡ self.old.objects }
         ensures kept { IsKept (objects_at self.old) self.new }
         ensures run { OnOk result (IsRun (objects_at self.old) self.new) }
         ensures tally { OnOk result (KeepsTally self.old (tally (P.faults spawner.old) (P.started spawner.old) (P.carried spawner.old)) self.new (tally (P.faults spawner.new) (P.started spawner.new) (P.carried spawner.new))) }
+        ensures out { KeepsOut self.old.others.items (P.started spawner.old) (P.joined spawner.old) self.new.others.items (P.started spawner.new) (P.joined spawner.new) }
+        ensures mains { OnOk result (AreMains self.new.main.list.items self.new.others.items) }
     {
         match control_in(self.main.forms()) {
             Some(Control::Start(u, _)) => self.start(rt, spawner, u),
@@ -189,15 +230,12 @@ impl<G: Gate + Send + Sync> Run<G> {
     }
 
     /// The place of a thread other than main, which is left idle.
-    fn leave(&mut self, u: ThreadNo) -> Option<Place<G>>
+    fn leave(&mut self, u: ThreadNo) -> Place<G>
+        requires there { (0 < u.0) × (u.0 ≤ vec_len self.old.others) }
         ensures parts { (self.new.objects ≡ self.old.objects) × (self.new.main ≡ self.old.main) }
-        ensures here { MatchOption result (self.new.others ≡ self.old.others) (λ p. IsHere u.0 p self.old.others.items self.new.others.items) }
+        ensures here { IsHere u.0 result self.old.others.items self.new.others.items }
     {
-        if u.0 == 0 || self.others.len() < u.0 as usize {
-            return None;
-        }
-        let place = &mut self.others[u.0 as usize - 1];
-        Some(mem::replace(place, Place::Idle))
+        mem::replace(&mut self.others[u.0 as usize - 1], Place::Idle)
     }
 
     /// Starts a thread, which begins with what main has seen, and puts the item into main's list.
@@ -209,14 +247,15 @@ impl<G: Gate + Send + Sync> Run<G> {
     ) -> Result<Item, NoMemory>
         requires next { forms_at (scene_in self.old.objects) 0 self.old.main.local ≡ forms.Does (controls.Start u true) ∷ forms.Does (controls.Start u false) ∷ [] }
         requires run { IsRun (objects_at self.old) self.old }
+        requires mains { AreMains self.old.main.list.items self.old.others.items }
         ensures objects { self.new.objects ≡ self.old.objects }
         ensures kept { IsKept (objects_at self.old) self.new }
         ensures run { OnOk result (IsRun (objects_at self.old) self.new) }
         ensures tally { OnOk result (KeepsTally self.old (tally (P.faults spawner.old) (P.started spawner.old) (P.carried spawner.old)) self.new (tally (P.faults spawner.new) (P.started spawner.new) (P.carried spawner.new))) }
+        ensures out { KeepsOut self.old.others.items (P.started spawner.old) (P.joined spawner.old) self.new.others.items (P.started spawner.new) (P.joined spawner.new) }
+        ensures mains { OnOk result (AreMains self.new.main.list.items self.new.others.items) }
     {
-        let Some(Place::Waiting(mut work)) = self.leave(u) else {
-            return Err(cannot_be());
-        };
+        let mut work = self.leave(u).into_work().unwrap();
         meet_all(
             self.main.accesses.as_mut_slice(),
             work.standing.accesses.as_mut_slice(),
@@ -237,14 +276,15 @@ impl<G: Gate + Send + Sync> Run<G> {
     ) -> Result<Item, NoMemory>
         requires next { forms_at (scene_in self.old.objects) 0 self.old.main.local ≡ forms.Does (controls.Join u) ∷ [] }
         requires run { IsRun (objects_at self.old) self.old }
+        requires mains { AreMains self.old.main.list.items self.old.others.items }
         ensures objects { self.new.objects ≡ self.old.objects }
         ensures kept { IsKept (objects_at self.old) self.new }
         ensures run { OnOk result (IsRun (objects_at self.old) self.new) }
         ensures tally { OnOk result (KeepsTally self.old (tally (P.faults spawner.old) (P.started spawner.old) (P.carried spawner.old)) self.new (tally (P.faults spawner.new) (P.started spawner.new) (P.carried spawner.new))) }
+        ensures out { KeepsOut self.old.others.items (P.started spawner.old) (P.joined spawner.old) self.new.others.items (P.started spawner.new) (P.joined spawner.new) }
+        ensures mains { OnOk result (AreMains self.new.main.list.items self.new.others.items) }
     {
-        let Some(Place::Running(thread)) = self.leave(u) else {
-            return Err(cannot_be());
-        };
+        let thread = self.leave(u).into_thread().unwrap();
         let list = self.await_end(rt, spawner, thread)?;
         self.others[u.0 as usize - 1] = Place::Ended(list);
         let item = Item::Control(Control::Join(u));
@@ -257,20 +297,19 @@ impl<G: Gate + Send + Sync> Run<G> {
         &mut self,
         rt: &R,
         spawner: &mut P,
-        mut thread: Thread<Work<G>>,
+        thread: Thread<Work<G>>,
     ) -> Result<Vec<Item>, NoMemory>
         requires kept { IsKept (objects_at self.old) self.old }
-        requires job { IfSome (job_to_join thread) (λ w. Needs w × (scene_in w.objects ≡ scene_in self.old.objects) × (objects_in w ≡ objects_at self.old)) }
+        requires may { MayAwait (scene_in self.old.objects) (objects_at self.old) thread }
         ensures kept { IsKept (objects_at self.old) self.new }
         ensures parts { (self.new.objects ≡ self.old.objects) × (self.new.others ≡ self.old.others) × (self.new.main.list ≡ self.old.main.list) × (self.new.main.local ≡ self.old.main.local) }
         ensures ended { IfOk result (λ ys. IsAwaited (scene_in self.old.objects) (objects_at self.old) thread ys.items self.old.main.accesses.items self.new.main.accesses.items) }
         ensures started { P.started spawner.new ≡ P.started spawner.old }
+        ensures joins { Raised (P.joined spawner.old) (P.joined spawner.new) 1 }
         ensures faults { P.faults spawner.new ≡ P.faults spawner.old }
         ensures carried { IfOk result (λ ys. Raised (P.carried spawner.old) (P.carried spawner.new) (change_count ys.items)) }
     {
-        let Ok(ended) = thread.join(rt, spawner, MAIN) else {
-            return Err(cannot_be());
-        };
+        let ended = await_thread(rt, spawner, thread);
         let Ended {
             list,
             accesses,
@@ -292,6 +331,7 @@ impl<G: Gate + Send + Sync> Run<G> {
         ensures kept { IsKept (objects_at self.old) self.new }
         ensures run { OnOk result (IsRun (objects_at self.old) self.new) }
         ensures tally { OnOk result (KeepsTally self.old (tally (P.faults spawner.old) (P.started spawner.old) (P.carried spawner.old)) self.new (tally (P.faults spawner.new) (P.started spawner.new) (P.carried spawner.new))) }
+        ensures out { KeepsOut self.old.others.items (P.started spawner.old) (P.joined spawner.old) self.new.others.items (P.started spawner.new) (P.joined spawner.new) }
         ensures come { OnOk result (AllHaveCome self.new) }
         ensures main { (self.new.main.list ≡ self.old.main.list) × (self.new.main.local ≡ self.old.main.local) }
     {
@@ -314,6 +354,7 @@ impl<G: Gate + Send + Sync> Run<G> {
         ensures kept { IsKept (objects_at self.old) self.new }
         ensures run { OnOk result (IsRun (objects_at self.old) self.new) }
         ensures tally { OnOk result (KeepsTally self.old (tally (P.faults spawner.old) (P.started spawner.old) (P.carried spawner.old)) self.new (tally (P.faults spawner.new) (P.started spawner.new) (P.carried spawner.new))) }
+        ensures out { KeepsOut self.old.others.items (P.started spawner.old) (P.joined spawner.old) self.new.others.items (P.started spawner.new) (P.joined spawner.new) }
         ensures come { OnOk result (HasComeAt i self.old.others.items self.new.others.items) }
         ensures main { (self.new.main.list ≡ self.old.main.list) × (self.new.main.local ≡ self.old.main.local) }
     {
@@ -338,17 +379,17 @@ impl<G: Gate + Send + Sync> Run<G> {
     /// After want of memory: main gives up what it holds, and waits until every thread has ended.
     pub(crate) fn give_up<P: Spawner<Work<G>>, R: Threads + Wait>(self, rt: &R, spawner: &mut P)
         requires kept { IsKept (objects_at self) self }
+        ensures joined { (a b : ℕ) → AreOut a b (P.started spawner.old) (P.joined spawner.old) (running_in self.others.items) → AreJoined a b (P.started spawner.new) (P.joined spawner.new) }
     {
         let Run {
             mut main,
-            others,
+            mut others,
             ..
         } = self;
         main.give_up(rt);
-        for place in others {
-            if let Place::Running(mut thread) = place {
-                let _ = thread.join(rt, spawner, MAIN);
-            }
+        for i in 0..others.len() {
+            let place = mem::replace(&mut others[i], Place::Idle);
+            await_place(rt, spawner, place);
         }
     }
 

@@ -1,29 +1,36 @@
--- Main's accesses as a scenario is made are main's to its objects.
-use Rattle.std.proofs.Common.{◌≡◌, ◌<◌, ◌-◌, ℕ, List, [], ◌∷◌, length, slice_get, get_or, Some, sym, ap, subst, arith}
+-- The accesses of the thread that main isn't, as a scenario of two is made.
+use Rattle.std.proofs.Common.{◌≡◌, ◌<◌, ◌≤◌, ℕ, zero, suc, List, [], ◌∷◌, length, slice_get, get_or, Some, refl, sym, ap, subst, arith}
 use Rattle.std.specs.Global.{Vec}
+use Rattle.cx_scene.specs.Scene.{Scene}
+use Rattle.cx_asks.specs.Scenes.{IsAskable}
 use Rattle.cx_kinds.specs.declared.access.Access.{Access}
 use Rattle.cx_kinds.specs.Accesses.{RunObject}
-use Rattle.cx_work.specs.Accesses.{AreAccesses, objects_of}
-use Rattle.cx_work.specs.RunNow.{AreNew, AreAllNew, objects_of_all}
+use Rattle.cx_work.specs.Accesses.{AreMadeAs, AreAccesses, objects_of}
+use Rattle.cx_work.specs.Reserves.{AreEnough}
+use Rattle.cx_work.specs.RunNow.{AreAllNew, AreShared, objects_of_all}
+use Rattle.cx_work.proofs.Newness.{new_are_accesses, new_objects, new_are_enough, shares_suffice}
 
-new_are_accesses : (xs : List RunObject) (seats t left splits : ℕ) (ks : List Access) → AreNew xs seats t left splits ks → AreAccesses xs t ks
-new_are_accesses xs seats t left splits ks new = record {
-  count = new.count;
-  each = λ o x k at_x at_k.
-      let n = new.each o x k at_x at_k in
-      record { object = n.object; view = n.view; seen = n.seen; thread = n.new.numbered };
-}
+place_is : (all : List (Vec Access)) (i : ℕ) (ks : Vec Access) → i < length all → ks ≡ get_or all i ks → slice_get all i ≡ Some ks
+place_is [] i ks low is = absurd (omega (arith, low))
+place_is (k ∷ all) zero ks low is = ap Some (sym is)
+place_is (k ∷ all) (suc i) ks low is = place_is all i ks (omega (arith, low)) is
 
-first_is : (all : List (Vec Access)) (ks : Vec Access) → 0 < length all → ks ≡ get_or all 0 ks → slice_get all 0 ≡ Some ks
-first_is [] ks some is = absurd (omega (arith, some))
-first_is (k ∷ all) ks some is = ap Some (sym is)
+-- the same by another count of the threads
+pub all_new : (all : List (Vec Access)) (m n : ℕ) → m ≡ n → AreAllNew (objects_of_all all) m all → AreAllNew (objects_of_all all) n all
+all_new all m n is new = subst (λ (k : ℕ). AreAllNew (objects_of_all all) k all) is new
 
--- the objects are those of the first thread's accesses
-pub first_objects : (all : List (Vec Access)) (ks : Vec Access) → 0 < length all → ks ≡ get_or all 0 ks → objects_of_all all ≡ objects_of ks.items
-first_objects [] ks some is = absurd (omega (arith, some))
-first_objects (k ∷ all) ks some is = ap (λ (v : Vec Access). objects_of v.items) (sym is)
+module _ (s : Scene) (all : List (Vec Access)) (ks : Vec Access) (new : AreAllNew (objects_of_all all) (length s.threads) all) (two : 2 ≤ length s.threads) (is : ks ≡ get_or all 1 ks) where
+  there : slice_get all 1 ≡ Some ks
+  there = let count = new.count in place_is all 1 ks (omega (arith, count, two)) is
 
-pub main_are_accesses : (threads : ℕ) (all : List (Vec Access)) (ks : Vec Access) → AreAllNew (objects_of_all all) threads all → 0 < length all → ks ≡ get_or all 0 ks → AreAccesses (objects_of ks.items) 0 ks.items
-main_are_accesses threads all ks new some is =
-    let objects = first_objects all ks some is in
-    subst (λ (xs : List RunObject). AreAccesses xs 0 ks.items) objects (new_are_accesses (objects_of_all all) threads 0 131072 (threads - 1) ks.items (new.main ks (first_is all ks some is)))
+  objects_are : objects_of ks.items ≡ objects_of_all all
+  objects_are = new_objects (objects_of_all all) (length s.threads) 1 131072 0 ks.items (new.others 1 ks (omega arith) there)
+
+  pub second_accesses : AreAccesses (objects_of ks.items) 1 ks.items
+  second_accesses = subst (λ (xs : List RunObject). AreAccesses xs 1 ks.items) (sym objects_are) (new_are_accesses (objects_of_all all) (length s.threads) 1 131072 0 ks.items (new.others 1 ks (omega arith) there))
+
+  pub second_made : AreMadeAs s.objects (objects_of_all all) → AreMadeAs s.objects (objects_of ks.items)
+  second_made made = subst (λ (xs : List RunObject). AreMadeAs s.objects xs) (sym objects_are) made
+
+  pub second_enough : IsAskable s → AreShared s all → AreEnough s 1 ks.items []
+  second_enough asks shared = new_are_enough s (objects_of_all all) (length s.threads) 1 0 ks.items refl (new.others 1 ks (omega arith) there) (shares_suffice s all 1 ks asks new.count shared there)

@@ -9,7 +9,7 @@ use Rattle.cx_scene.specs.declared.declared.Object.{Object}
 use Rattle.cx_scene.specs.declared.call.Call.{Call}
 use Rattle.cx_scene.specs.declared.call.Call.TheVariants as calls
 use Rattle.cx_scene.specs.Scene.{Scene, body_of}
-use Rattle.cx_asks.specs.Scenes.{is_object_now, is_thread_now, is_latch, is_fit, starts_of, startings, takes_of, takings, taken_in, taken_below, count_of, count_at, IsAskable}
+use Rattle.cx_asks.specs.Scenes.{is_object_now, is_completed_on, is_thread_now, is_latch, is_fit, starts_of, startings, takes_of, takings, taken_in, taken_below, count_of, count_at, IsAskable}
 use Rattle.cx_work.specs.RunNow.{IsRunNow}
 use Rattle.cx_run_tests.specs.Runnable.{are_fit, starts_anew, start_once, are_enough, are_none, is_runnable}
 
@@ -168,9 +168,11 @@ parts_of a b c d e f h =
 
 pub runnable_runs : (s : Scene) → is_runnable s ≡ true → IsRunNow s
 runnable_runs s h =
-    let p = parts_of (list_all is_object_now s.objects) (list_all is_thread_now s.threads) (are_fit s 0 s.bodies) (start_once (body_of s 0)) (are_enough s 0 s.objects) (are_none s.callbacks) h in
+    let w = and_parts (list_all is_object_now s.objects && list_all is_thread_now s.threads && are_fit s 0 s.bodies && start_once (body_of s 0) && are_enough s 0 s.objects && are_none s.callbacks) (list_all (is_completed_on s) s.objects) h in
+    let p = parts_of (list_all is_object_now s.objects) (list_all is_thread_now s.threads) (are_fit s 0 s.bodies) (start_once (body_of s 0)) (are_enough s 0 s.objects) (are_none s.callbacks) w.0 in
     let asks : IsAskable s = record {
       objects = p.one;
+      completions = w.1;
       threads = p.two;
       few = λ t. (fit_body s t p.three).few;
       calls = λ t. (fit_body s t p.three).calls;

@@ -6,7 +6,7 @@ use Rattle.cx_scene.specs.declared.declared.Object.{Object}
 use Rattle.cx_scene.specs.declared.call.Call.{Call}
 use Rattle.cx_scene.specs.declared.call.Call.TheVariants as calls
 use Rattle.cx_scene.specs.Scene.{Scene, body_of}
-use Rattle.cx_asks.specs.Scenes.{is_object_now, is_thread_now, is_fit, startings, taken_below, count_of}
+use Rattle.cx_asks.specs.Scenes.{is_object_now, is_completed_on, is_thread_now, is_fit, startings, taken_below, count_of}
 
 -- the bodies are those of thread t and the next ones: each has at most 4,096 calls, which are fit
 abbrev pub are_fit : Scene → ℕ → List (List Call) → Bool
@@ -34,4 +34,4 @@ are_none _ = false
 
 -- the scenario may be run
 abbrev pub is_runnable : Scene → Bool
-is_runnable s = list_all is_object_now s.objects && list_all is_thread_now s.threads && are_fit s 0 s.bodies && start_once (body_of s 0) && are_enough s 0 s.objects && are_none s.callbacks
+is_runnable s = list_all is_object_now s.objects && list_all is_thread_now s.threads && are_fit s 0 s.bodies && start_once (body_of s 0) && are_enough s 0 s.objects && are_none s.callbacks && list_all (is_completed_on s) s.objects

@@ -1,4 +1,4 @@
-use crate::plans::{LATCH, MUTEX, SEMAPHORE, a_shared_latch, main_alone};
+use crate::plans::{A, LATCH, MUTEX, SEMAPHORE, a_shared_latch, one_works};
 use cx_io::Job;
 use cx_items::Item;
 use cx_kinds::Access;
@@ -24,11 +24,11 @@ fn is_said(item: &Item, reply: Reply) -> bool {
 
 #[test]
 fn a_body_is_made(rt: HostRuntime) -> Result<(), NoMemory> {
-    let plan = main_alone(rt.alloc())?;
+    let plan = one_works(rt.alloc())?;
     let (objects, mut passes) = Objects::make(rt.alloc(), &plan)?;
-    let accesses = passes.threads.remove(0);
+    let accesses = passes.threads.remove(1);
     let gate = Arc::new(rt.alloc(), Open)?;
-    let work = Work::new(rt.alloc(), objects, ThreadNo(0), accesses, gate)?;
+    let work = Work::new(rt.alloc(), objects, A, accesses, gate)?;
     let ended = work.run(&rt);
     assert!(rt; !ended.failed);
     assert_eq!(rt; ended.made, 7);
@@ -65,9 +65,9 @@ fn a_body_is_made(rt: HostRuntime) -> Result<(), NoMemory> {
 
 #[test]
 fn a_body_has_its_room(rt: HostRuntime) -> Result<(), NoMemory> {
-    let plan = main_alone(rt.alloc())?;
-    assert_eq!(rt; room_for(&plan, ThreadNo(0))?, 75);
-    assert_eq!(rt; room_for(&plan, ThreadNo(1))?, 3);
+    let plan = one_works(rt.alloc())?;
+    assert_eq!(rt; room_for(&plan, A), 75);
+    assert_eq!(rt; room_for(&plan, ThreadNo(0)), 3);
     Ok(())
 }
 

@@ -17,10 +17,10 @@ pub(crate) const SEMAPHORE: ObjectNo = ObjectNo(1);
 
 pub(crate) const LATCH: ObjectNo = ObjectNo(2);
 
-/// Main alone, with calls on a mutex, a semaphore and a latch.
-pub(crate) fn main_alone(alloc: Global) -> Result<Plan, NoMemory>
+/// Main makes no call, and `a` makes calls on a mutex, a semaphore and a latch.
+pub(crate) fn one_works(alloc: Global) -> Result<Plan, NoMemory>
     ensures runs { IfOk result (λ p. is_runnable (scene_of p) ≡ true) }
-    ensures threads { IfOk result (λ p. vec_len p.threads ≡ 1) }
+    ensures threads { IfOk result (λ p. vec_len p.threads ≡ 2) }
 {
     let objects = [
         Object::Mutex { numbers: 0 },
@@ -41,10 +41,10 @@ pub(crate) fn main_alone(alloc: Global) -> Result<Plan, NoMemory>
     let body = Vec::from_array(alloc, body)?;
     Ok(Plan {
         version: 1,
-        threads: Vec::from_array(alloc, [Thread::Plain])?,
+        threads: Vec::from_array(alloc, [Thread::Plain, Thread::Plain])?,
         objects: Vec::from_array(alloc, objects)?,
         callbacks: Vec::new(alloc),
-        bodies: Vec::from_array(alloc, [body])?,
+        bodies: Vec::from_array(alloc, [Vec::new(alloc), body])?,
     })
 }
 
@@ -163,5 +163,36 @@ pub(crate) fn two_calls(alloc: Global) -> Result<Plan, NoMemory>
         objects: Vec::from_array(alloc, objects)?,
         callbacks: Vec::new(alloc),
         bodies: Vec::from_array(alloc, [main, a, b])?,
+    })
+}
+
+/// `a` makes calls on a shared mutex, a once flag and a barrier of which it alone is expected.
+pub(crate) fn more_kinds(alloc: Global) -> Result<Plan, NoMemory>
+    ensures runs { IfOk result (λ p. is_runnable (scene_of p) ≡ true) }
+    ensures threads { IfOk result (λ p. vec_len p.threads ≡ 2) }
+{
+    let objects = [
+        Object::Shared,
+        Object::Once,
+        Object::Barrier {
+            count: 1,
+            small: None,
+        },
+    ];
+    let main = [Call::Start(A), Call::Join(A)];
+    let other = [
+        Call::LockShared(ObjectNo(0)),
+        Call::UnlockShared(ObjectNo(0)),
+        Call::CallOnceReturn(ObjectNo(1)),
+        Call::ArriveAndWait(ObjectNo(2)),
+    ];
+    let main = Vec::from_array(alloc, main)?;
+    let other = Vec::from_array(alloc, other)?;
+    Ok(Plan {
+        version: 1,
+        threads: Vec::from_array(alloc, [Thread::Plain, Thread::Plain])?,
+        objects: Vec::from_array(alloc, objects)?,
+        callbacks: Vec::new(alloc),
+        bodies: Vec::from_array(alloc, [main, other])?,
     })
 }

@@ -3,7 +3,7 @@ ghost use Rattle.cx_scene.specs.Scene.{scene_of};
 ghost use Rattle.cx_run_tests.specs.Runnable.{is_runnable};
 
 use crate::counting::Counting;
-use crate::plans::{A, B, one_after_the_other, two_calls, two_units};
+use crate::plans::{A, B, more_kinds, one_after_the_other, two_calls, two_units};
 use cx_history::Record;
 use cx_io::{Listed, Real, Spawner};
 use cx_items::{Control, Item};
@@ -126,6 +126,35 @@ fn two_threads_carry_six_steps(rt: HostRuntime) -> Result<(), NoMemory> {
     }
     assert_eq!(rt; counting.started, 2);
     assert_eq!(rt; counting.joined, 2);
+    assert_eq!(rt; counting.carried, 6);
+    Ok(())
+}
+
+#[test]
+fn a_phase_is_completed(rt: HostRuntime) -> Result<(), NoMemory> {
+    let plan = more_kinds(rt.alloc())?;
+    let gate = Arc::new(rt.alloc(), Open)?;
+    let mut counting = Counting::new(rt.alloc());
+    let record = run_by(&rt, rt.alloc(), &plan, &mut counting, &gate)?;
+    let other = [
+        (1, 0, 0),
+        (5, 0, 0),
+        (1, 0, 1),
+        (5, 0, 0),
+        (1, 1, 0),
+        (1, 1, 1),
+        (9, 0, 0),
+        (1, 2, 0),
+        (1, 2, 1),
+        (2, 2, 2),
+        (5, 0, 0),
+        (0, 0, 0),
+    ];
+    for i in 0..12 {
+        assert_eq!(rt; item_of(&record, 1, i), other[i]);
+    }
+    assert_eq!(rt; counting.started, 1);
+    assert_eq!(rt; counting.joined, 1);
     assert_eq!(rt; counting.carried, 6);
     Ok(())
 }

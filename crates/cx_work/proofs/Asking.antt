@@ -1,8 +1,7 @@
 -- What is made of an ask is an item of the forms that were offered.
-use Rattle.std.proofs.Common.{◌≡◌, ℕ, ◌+◌, ◌<◌, Bool, true, false, List, [], ◌∷◌, length, take, slice_get, slice_set, Option, Some, None, Result, Ok, Err, IfOk, refl, sym, ap, ◌∙◌, subst, arith}
+use Rattle.std.proofs.Common.{◌≡◌, ℕ, ◌+◌, ◌<◌, Bool, true, false, List, [], ◌∷◌, length, take, slice_get, slice_set, Option, Some, None, refl, sym, ap, ◌∙◌, subst, arith}
 use Rattle.std.proofs.Math.Seq.{take-length}
 use Rattle.cx_names.specs.declared.ObjectNo.{ObjectNo}
-use Rattle.cx_names.specs.declared.errors.NoMemory.{NoMemory}
 use Rattle.cx_names.specs.declared.Reply.{Reply}
 use Rattle.cx_names.specs.declared.Reply.TheVariants as replies
 use Rattle.cx_names.specs.Replies.{reply_eq}
@@ -19,21 +18,22 @@ use Rattle.cx_items.specs.declared.form.Form.TheVariants.{Says}
 use Rattle.cx_items.specs.declared.item.Item.{Item}
 use Rattle.cx_items.specs.declared.item.Item.TheVariants as items
 use Rattle.cx_items.specs.declared.local.Local.{Local as Place}
-use Rattle.cx_items.specs.Next.{Local}
+use Rattle.cx_items.specs.Next.{Local, settled_local}
 use Rattle.cx_items.specs.Steps.{local_of}
 use Rattle.cx_history.specs.IsRecord.{is_item}
 use Rattle.cx_history.specs.Follows.{is_completing}
 use Rattle.cx_fronts.specs.Paths.{Fronts}
 use Rattle.cx_fronts.specs.Runs.{AgreesWith}
-use Rattle.cx_asks.specs.Forms.{IsAskOf, is_of_one}
+use Rattle.cx_asks.specs.Forms.{is_of_one}
 use Rattle.cx_asks.specs.Laws.{Answers}
 use Rattle.cx_asks.specs.Offers.{IsOffer, names_nobody}
 use Rattle.cx_asks.specs.Scenes.{IsAskable}
 use Rattle.cx_asks.proofs.Answering.{asked_is_declared, change_is_of, look_is_of}
-use Rattle.cx_asks.proofs.Offering.{offered_is_served}
+use Rattle.cx_asks.proofs.Offering.{offered_now_is_served}
 use Rattle.cx_kinds.specs.declared.access.Access.{Access}
 use Rattle.cx_kinds.specs.Accesses.{object_of, Knows}
-use Rattle.cx_work.specs.Accesses.{AreMadeAs, AreAccesses, AreShown, objects_of}
+use Rattle.cx_kinds.proofs.Completing.{completing_after}
+use Rattle.cx_work.specs.Accesses.{AreMadeAs, AreAccesses, objects_of}
 use Rattle.cx_work.specs.Acting.{AsksOn, IsLeft, LeavesIt}
 use Rattle.cx_work.specs.Steps.{StepsOn, StandsAt, forms_at, is_made_alone}
 use Rattle.cx_work.proofs.Going.{same_view, run_is, change_remains, change_end, change_below, look_below}
@@ -42,17 +42,17 @@ use Rattle.cx_work.proofs.Stepping.{object_there, object_made, access_at, set_sa
 -- ---- asks
 
 -- what the changes in these fronts leave
-abbrev completing_by : Scene → Fronts → ℕ → ℕ → Bool
+abbrev pub completing_by : Scene → Fronts → ℕ → ℕ → Bool
 completing_by s f o p = elim (slice_get s.objects o) [ None ↦ false | Some d ↦ is_completing (after (kind_of d) (f o) (p + 1)) ]
 
-agrees_itself : (s : Scene) (f : Fronts) → AgreesWith s f (completing_by s f)
+pub agrees_itself : (s : Scene) (f : Fronts) → AgreesWith s f (completing_by s f)
 agrees_itself s f o p d at_d low = ap (λ (r : Option Object). elim r [ None ↦ false | Some c ↦ is_completing (after (kind_of c) (f o) (p + 1)) ]) at_d
 
 -- what is offered where a thread stands
-pub offer_at : (s : Scene) (t : ℕ) (ks : List Access) (xs : List Item) (l : Place) → IsAskable s → AreAccesses (objects_of ks) t ks → StandsAt s t ks xs l → IsOffer s t (local_of s t l) (forms_at s t l)
+pub offer_at : (s : Scene) (t : ℕ) (ks : List Access) (xs : List Item) (l : Place) → IsAskable s → AreAccesses (objects_of ks) t ks → StandsAt s t ks xs l → IsOffer s t (settled_local (local_of s t l)) (forms_at s t l)
 offer_at s t ks xs l asks are at_ =
     let f = some_fronts t ks are in
-    offered_is_served s (completing_by s f.0) t xs (local_of s t l) asks (at_.stands f.0 f.1 (completing_by s f.0) (agrees_itself s f.0))
+    offered_now_is_served s (completing_by s f.0) t xs (local_of s t l) asks (at_.stands f.0 f.1 (completing_by s f.0) (agrees_itself s f.0))
 
 -- what is so of an item that was made of an ask
 pub record IsGood (s : Scene) (t : ℕ) (fs : List Form) (ks ks' : List Access) (x : Item) : Type 0 where
@@ -63,7 +63,7 @@ pub record IsGood (s : Scene) (t : ℕ) (fs : List Form) (ks ks' : List Access) 
 
 -- the same view as the object's declaration opens it
 opens_as : (s : Scene) (ks : List Access) (o : ℕ) (d : Object) (k : Access) (v : View State) → AreMadeAs s.objects (objects_of ks) → slice_get s.objects o ≡ Some d → slice_get ks o ≡ Some k → Knows k v → v.start ≡ opening (kind_of d)
-opens_as s ks o d k v made at_d at_k a = a.started ∙ made.each o d (object_of k) at_d (object_there ks o k at_k)
+opens_as s ks o d k v made at_d at_k a = a.started ∙ (made.each o d (object_of k) at_d (object_there ks o k at_k)).opens_so
 
 module _ (s : Scene) (t : ℕ) (l : Local) (fs : List Form) (ks ks' : List Access) (made : AreMadeAs s.objects (objects_of ks)) (are : AreAccesses (objects_of ks) t ks) (offer : IsOffer s t l fs) where
   asked_change : (q : ObjectNo) (n : ℕ) (e : Entry) (a : AsksOn fs ks ks' (items.Change q n e)) → IsGood s t fs ks ks' (items.Change q n e)
@@ -139,17 +139,12 @@ reply_fits s r = let same : reply_eq r r ≡ true = (replies_are_equal r r).1 re
 pub says_good : (s : Scene) (t : ℕ) (ks : List Access) (xs : List Item) (l : Place) (fs : List Form) (r : Reply) → IsAskable s → AreAccesses (objects_of ks) t ks → StandsAt s t ks xs l → fs ≡ forms_at s t l → fs ≡ Says r ∷ [] → (is_of_one s (forms_at s t l) (items.Said r) ≡ true) × (is_item s t (items.Said r) ≡ true)
 says_good s t ks xs l fs r asks are at_ is says =
     let forms : forms_at s t l ≡ Says r ∷ [] = sym is ∙ says in
-    let offer : IsOffer s t (local_of s t l) (Says r ∷ []) = subst (λ (gs : List Form). IsOffer s t (local_of s t l) gs) forms (offer_at s t ks xs l asks are at_) in
+    let offer : IsOffer s t (settled_local (local_of s t l)) (Says r ∷ []) = subst (λ (gs : List Form). IsOffer s t (settled_local (local_of s t l)) gs) forms (offer_at s t ks xs l asks are at_) in
     (subst (λ (gs : List Form). is_of_one s gs (items.Said r) ≡ true) (sym forms) (reply_fits s r), reply_formed s t r offer.1)
 
 -- what was made of the forms that are offered is good
-pub made_good : (s : Scene) (t : ℕ) (ks ks' : List Access) (xs : List Item) (l : Place) (fs gs : List Form) (result : Result Item NoMemory) → AreMadeAs s.objects (objects_of ks) → AreAccesses (objects_of ks) t ks → IsAskable s → StandsAt s t ks xs l → fs ≡ forms_at s t l → gs ≡ fs → IfOk result (λ x. AsksOn gs ks ks' x) → IfOk result (λ x. IsGood s t (forms_at s t l) ks ks' x)
-made_good s t ks ks' xs l fs gs (Ok x) made are asks at_ is same asked = asked_good s t (local_of s t l) (forms_at s t l) ks ks' made are (offer_at s t ks xs l asks are at_) x (subst (λ (hs : List Form). AsksOn hs ks ks' x) (same ∙ is) asked)
-made_good s t ks ks' xs l fs gs (Err e) made are asks at_ is same asked = tt
-
-pub if_ok : {T E : Type 0} (P Q : T → Type 0) (r : Result T E) → ((x : T) → P x → Q x) → IfOk r P → IfOk r Q
-if_ok P Q (Ok x) f h = f x h
-if_ok P Q (Err e) f h = tt
+pub made_good : (s : Scene) (t : ℕ) (ks ks' : List Access) (xs : List Item) (l : Place) (fs gs : List Form) (x : Item) → AreMadeAs s.objects (objects_of ks) → AreAccesses (objects_of ks) t ks → IsAskable s → StandsAt s t ks xs l → fs ≡ forms_at s t l → gs ≡ fs → AsksOn gs ks ks' x → IsGood s t (forms_at s t l) ks ks' x
+made_good s t ks ks' xs l fs gs x made are asks at_ is same asked = asked_good s t (settled_local (local_of s t l)) (forms_at s t l) ks ks' made are (offer_at s t ks xs l asks are at_) x (subst (λ (hs : List Form). AsksOn hs ks ks' x) (same ∙ is) asked)
 
 -- ---- completions
 
@@ -170,7 +165,7 @@ leaves_it s t ks ks' (items.Change q n e) b made are a left f shown c agrees =
     let whole : take (n + 1) (f q.0) ≡ w.front = ap (take (n + 1)) front ∙ (ap (λ i. take i w.front) (sym end) ∙ take-length w.front) in
     let began : w.start ≡ opening (kind_of d.0) = (change_remains v w e n m).start ∙ opens_as s ks q.0 d.0 a.old v made d.1 a.was is.seen in
     let state : run (opening (kind_of d.0)) (take (n + 1) (f q.0)) ≡ runs step (Some w.start) w.front = ap (run (opening (kind_of d.0))) whole ∙ (ap (λ u. run u w.front) (sym began) ∙ run_is w.front w.start) in
-    agrees q.0 n d.0 d.1 low ∙ (ap is_completing state ∙ sym ((left a.new there).told w r.1))
+    agrees q.0 n d.0 d.1 low ∙ (ap is_completing state ∙ sym (completing_after v w e n b r.2.0 m ((left a.new there).told w r.1)))
 leaves_it s t ks ks' (items.Look q l) b made are a left f shown c agrees = sym left
 leaves_it s t ks ks' (items.Control k) b made are a left f shown c agrees = sym left
 leaves_it s t ks ks' (items.Said r) b made are a left f shown c agrees = sym left

@@ -1,29 +1,38 @@
 -- A body goes on by an item, and ends.
-use Rattle.std.proofs.Common.{◌≡◌, ℕ, Bool, true, List, [], ◌∷◌, ◌++◌, refl, sym, ap, ◌∙◌, subst}
+use Rattle.std.proofs.Common.{◌≡◌, ◌<◌, ℕ, Bool, true, false, List, [], ◌∷◌, ◌++◌, refl, sym, ap, ◌∙◌, subst, arith}
 use Rattle.std.specs.Global.{Vec}
 use Rattle.cx_names.specs.declared.ThreadNo.{ThreadNo}
 use Rattle.cx_scene.specs.Scene.{Scene}
 use Rattle.cx_items.specs.declared.form.Form.{Form}
+use Rattle.cx_items.specs.declared.form.Form.TheVariants as forms
+use Rattle.cx_items.specs.declared.item.Control.TheVariants as controls
 use Rattle.cx_items.specs.declared.item.Item.{Item}
+use Rattle.cx_items.specs.declared.item.Item.TheVariants as items
 use Rattle.cx_items.specs.declared.local.Local.{Local as Place}
-use Rattle.cx_items.specs.Next.{is_ended}
+use Rattle.cx_items.specs.Next.{Local, settled_local, is_ended}
 use Rattle.cx_items.specs.Steps.{local_of}
 use Rattle.cx_history.specs.Follows.{is_whole}
 use Rattle.cx_history.specs.IsRecord.{is_item}
 use Rattle.cx_fronts.specs.Paths.{Fronts, Grows, nothing}
 use Rattle.cx_fronts.specs.Promises.{Promised}
 use Rattle.cx_asks.specs.Forms.{is_of_one}
+use Rattle.cx_asks.specs.Offers.{IsOffer}
+use Rattle.cx_asks.specs.Scenes.{IsAskable}
 use Rattle.cx_fronts.proofs.Heart.{stays}
 use Rattle.cx_fronts.proofs.Promised.{promises_compose, one_is_promised}
 use Rattle.cx_kinds.specs.declared.access.Access.{Access}
 use Rattle.cx_kinds.specs.Accesses.{RunObject}
 use Rattle.cx_work.specs.Accesses.{AreMadeAs, AreAccesses, AreShown, objects_of}
 use Rattle.cx_work.specs.declared.standing.Standing.{Standing}
-use Rattle.cx_work.specs.Steps.{StepsOn, StandsAt, IsNext, forms_at, is_made_alone}
+use Rattle.cx_work.specs.Acting.{LeavesIt}
+use Rattle.cx_work.specs.Reserves.{AreEnough}
+use Rattle.cx_work.specs.Steps.{StepsOn, StandsAt, HasMade, IsNext, begins_control, forms_at, is_made_alone}
 use Rattle.cx_work.specs.Bodies.{Goes, IsBody, IsUnderway}
 use Rattle.cx_work.proofs.Promising.{steps_promise}
 use Rattle.cx_work.proofs.Stepping.{objects_are, some_fronts}
-use Rattle.cx_work.proofs.Walking.{stands_later}
+use Rattle.cx_work.proofs.Asking.{offer_at}
+use Rattle.cx_work.proofs.Sufficing.{control_enough, are_seated}
+use Rattle.cx_work.proofs.Walking.{leads_later}
 
 -- at its start a body has gone nowhere
 pub goes_first : (s : Scene) (t : ℕ) (ks : List Access) (list : List Item) (l : Place) → list ≡ [] → AreAccesses (objects_of ks) t ks → StandsAt s t ks list l → Goes s ks t ks list l
@@ -62,6 +71,7 @@ is_body s before t ks list l goes ended = record {
   promised = goes.promised;
   whole = λ f shown leaves_completing agrees. ap is_whole (goes.at_.stands f shown leaves_completing agrees) ∙ ended;
   formed = goes.at_.formed;
+  seated = are_seated s t ks list goes.at_.enough;
 }
 
 -- ---- a turn of the loop
@@ -73,9 +83,20 @@ stays_so_far s before t t' ks ks' list list' l l' same_t same_ks same_list same_
 pub still_underway : (s : Scene) (before : List Access) (v w : Standing) → (w.thread ≡ v.thread) × (w.accesses ≡ v.accesses) × (w.list ≡ v.list) × (w.local ≡ v.local) → IsUnderway s before v → IsUnderway s before w
 still_underway s before v w same goes = stays_so_far s before v.thread w.thread v.accesses w.accesses v.list w.list v.local w.local same.0 same.1 same.2 same.3 goes
 
--- the forms of what is next are those of where it still stands
-pub next_forms : (s : Scene) (t t' : ThreadNo) (l l' : Place) (there : Bool) (fs : List Form) → there ≡ true → t' ≡ t → l' ≡ l → IsNext s t.0 l there fs → fs ≡ forms_at s t'.0 l'
-next_forms s t t' l l' there fs is a b next = rw (a, b) (subst (λ (u : Bool). IsNext s t.0 l u fs) is next)
+-- what is next is so where it still stands
+pub next_still : (s : Scene) (t t' : ThreadNo) (l l' : Place) (there : Bool) (fs : List Form) → there ≡ true → t' ≡ t → l' ≡ l → IsNext s t.0 l there fs → IsNext s t'.0 l' true fs
+next_still s t t' l l' there fs is a b next = rw (a, b) (subst (λ (u : Bool). IsNext s t.0 l u fs) is next)
+
+offered_no_control : (s : Scene) (t : ℕ) (l : Local) (fs : List Form) → 0 < t → IsOffer s t l fs → begins_control fs ≡ false
+offered_no_control s t l [] other offer = refl
+offered_no_control s t l (forms.Does (controls.Start u ok) ∷ fs) other offer = let main = offer.2.main in absurd (omega (arith, other, main))
+offered_no_control s t l (forms.Does (controls.Launch u ok) ∷ fs) other offer = absurd offer
+offered_no_control s t l (forms.Does (controls.Join u) ∷ fs) other offer = let main = offer.1.main in absurd (omega (arith, other, main))
+offered_no_control s t l (f ∷ fs) other offer = refl
+
+-- main alone starts and joins
+pub no_control_next : (s : Scene) (t : ℕ) (ks : List Access) (xs : List Item) (l : Place) (fs : List Form) → IsAskable s → 0 < t → AreAccesses (objects_of ks) t ks → StandsAt s t ks xs l → fs ≡ forms_at s t l → begins_control fs ≡ false
+no_control_next s t ks xs l fs asks other are at_ is = offered_no_control s t (settled_local (local_of s t l)) fs other (subst (λ (gs : List Form). IsOffer s t (settled_local (local_of s t l)) gs) (sym is) (offer_at s t ks xs l asks are at_))
 
 -- one item more that the thread made
 pub makes_one_more : (s : Scene) (before : List Access) (t t' : ThreadNo) (ks ks' : Vec Access) (list list' : Vec Item) (l l' : Place) (x : Item) → AreMadeAs s.objects (objects_of before) → Goes s before t.0 ks.items list.items l → t' ≡ t → AreAccesses (objects_of ks.items) t'.0 ks'.items → list'.items ≡ list.items ++ x ∷ [] → StepsOn ks.items ks'.items x → is_made_alone x ≡ true → StandsAt s t'.0 ks'.items list'.items l' → Goes s before t'.0 ks'.items list'.items l'
@@ -90,15 +111,24 @@ body_of s before t t' ks ks' list list' l same_t same_ks same_list goes ended = 
 
 -- ---- an item that was made
 
--- a thread stands where it stood once its accesses have made an item, which isn't in its list yet
-made_at : (s : Scene) (t : ℕ) (ks ks' : List Access) (list : List Item) (l : Place) (x : Item) → AreMadeAs s.objects (objects_of ks) → AreAccesses (objects_of ks) t ks → StepsOn ks ks' x → is_made_alone x ≡ true → StandsAt s t ks list l → StandsAt s t ks' list l
-made_at s t ks ks' list l x made are steps alone at_ = stands_later s t ks ks' list l (some_fronts t ks are) later at_
+-- a thread whose accesses have made an item, which isn't in its list yet
+made_at : (s : Scene) (t : ℕ) (ks ks' : List Access) (list : List Item) (l : Place) (x : Item) → AreMadeAs s.objects (objects_of ks) → AreAccesses (objects_of ks) t ks → StepsOn ks ks' x → is_made_alone x ≡ true → AreEnough s t ks' (list ++ x ∷ []) → StandsAt s t ks list l → HasMade s t ks' list x l
+made_at s t ks ks' list l x made are steps alone enough at_ = record { stands = leads_later s t ks ks' list l (some_fronts t ks are) later at_.stands; formed = at_.formed; enough = enough }
   where
     later : (f : Fronts) → AreShown ks f → (g : Fronts) × AreShown ks' g × Grows f g
     later f shown = let p = steps_promise s t ks ks' x made are steps alone f shown in (p.0, p.1, (p.2 (λ u. nothing) (λ u. nothing)).moved.grows)
 
-pub made_stands : (s : Scene) (t t' : ThreadNo) (ks ks' : List Access) (list list' : Vec Item) (l l' : Place) (x : Item) → AreMadeAs s.objects (objects_of ks) → AreAccesses (objects_of ks) t.0 ks → StepsOn ks ks' x → is_made_alone x ≡ true → StandsAt s t.0 ks list.items l → t' ≡ t → list' ≡ list → l' ≡ l → StandsAt s t'.0 ks' list'.items l'
-made_stands s t t' ks ks' list list' l l' x made are steps alone at_ a b c = rw (a, b, c) (made_at s t.0 ks ks' list.items l x made are steps alone at_)
+pub made_stands : (s : Scene) (t t' : ThreadNo) (ks ks' : List Access) (list list' : Vec Item) (l l' : Place) (x : Item) → AreMadeAs s.objects (objects_of ks) → AreAccesses (objects_of ks) t.0 ks → StepsOn ks ks' x → is_made_alone x ≡ true → AreEnough s t.0 ks' (list.items ++ x ∷ []) → StandsAt s t.0 ks list.items l → t' ≡ t → list' ≡ list → l' ≡ l → HasMade s t'.0 ks' list'.items x l'
+made_stands s t t' ks ks' list list' l l' x made are steps alone enough at_ a b c = rw (a, b, c) (made_at s t.0 ks ks' list.items l x made are steps alone enough at_)
+
+-- a start or a join, which no access makes
+pub control_made : (s : Scene) (t : ℕ) (ks : List Access) (list : List Item) (l : Place) (x : Item) → is_made_alone x ≡ false → StandsAt s t ks list l → HasMade s t ks list x l
+control_made s t ks list l x control at_ = record { stands = at_.stands; formed = at_.formed; enough = control_enough s t ks list x control at_.enough }
+
+-- it leaves no completion due
+pub control_undue : (s : Scene) (ks : List Access) (x : Item) → is_made_alone x ≡ false → LeavesIt s ks x false
+control_undue s ks (items.Control c) control f shown leaves_completing agrees = refl
+control_undue s ks _ control f shown leaves_completing agrees = cc control
 
 pub fits_still : (s : Scene) (t t' : ThreadNo) (l l' : Place) (x : Item) → t' ≡ t → l' ≡ l → is_of_one s (forms_at s t.0 l) x ≡ true → is_of_one s (forms_at s t'.0 l') x ≡ true
 fits_still s t t' l l' x a c h = rw (a, c) h

@@ -9,7 +9,7 @@ use Rattle.cx_items.specs.Memory.{nothing}
 use Rattle.cx_kinds.specs.declared.access.Access.{Access}
 use Rattle.cx_kinds.specs.Accesses.{RunObject, object_of, kept_of, Knows}
 use Rattle.cx_kinds.specs.Sights.{IsSeen, Keeps, IsFree}
-use Rattle.cx_work.specs.Accesses.{IsAccess, AreAccesses, HoldNothing, objects_of}
+use Rattle.cx_work.specs.Accesses.{IsAccess, AreAccesses, HoldNothing}
 use Rattle.cx_work.proofs.Rows.{below, at_get}
 use Rattle.cx_work.proofs.Stepping.{at_index, is_within, set_same, set_other, same_some, set_access}
 

@@ -21,7 +21,7 @@ use Rattle.cx_fronts.specs.Paths.{Fronts, put, shown_in, Goes}
 use Rattle.cx_fronts.proofs.Grown.{change_goes, look_goes}
 use Rattle.cx_kinds.specs.AnyKind.{any_kind}
 use Rattle.cx_kinds.specs.declared.access.Access.{Access}
-use Rattle.cx_kinds.specs.Accesses.{object_of, opens, Knows}
+use Rattle.cx_kinds.specs.Accesses.{object_of, Knows}
 use Rattle.cx_work.specs.Accesses.{IsMadeAs, GoesBy}
 
 -- ---- positions, as both crates have them
@@ -143,7 +143,7 @@ look_path s t d q k k' l v w declared made numbered own a b m f shown first last
     let to : l.at ≤ length w.front = omega (arith, at_) in
     let same : own_positions t 0 w.front ≡ own_positions t 0 v.front = own_at k' t w (r.number ∙ numbered) b ∙ (mine ∙ sym (own_at k t v numbered a)) in
     let whole : take l.at w.front ≡ w.front = ap (λ i. take i w.front) m.stamp ∙ take-length w.front in
-    let opens_ : opening (kind_of d) ≡ v.start = sym made ∙ sym a.started in
+    let opens_ : opening (kind_of d) ≡ v.start = sym made.opens_so ∙ sym a.started in
     let state : run (opening (kind_of d)) (take l.at w.front) ≡ Some m.now = ap (λ es. run (opening (kind_of d)) es) whole ∙ (ap (λ u. run u w.front) opens_ ∙ (run_is w.front v.start ∙ m.leads)) in
     let shows : shown_in s w.front q l ≡ true = ap (λ o_. shows_to (option_and_then (λ (c : Object). run (opening (kind_of c)) (take l.at w.front)) o_) l) declared ∙ (ap (λ u. shows_to u l) state ∙ m.shown) in
     let later_f = subst (λ es. IsPrefix es w.front) (sym shown) m.later in

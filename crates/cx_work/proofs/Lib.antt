@@ -3,6 +3,8 @@ pub mod Stepping
 pub mod Promising
 pub mod Walking
 pub mod Asking
+pub mod Remembering
+pub mod Sufficing
 pub mod Bodying
 pub mod Newness
 pub mod Counting

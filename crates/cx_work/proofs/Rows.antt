@@ -1,18 +1,21 @@
 -- Accesses, as they are made one by one.
-use Rattle.std.proofs.Common.{◌≡◌, ◌≤◌, ◌<◌, ◌+◌, ◌-◌, ◌*◌, ◌==◌, ℕ, zero, suc, Bool, true, false, List, [], ◌∷◌, ◌++◌, length, take, drop, Option, Some, get_or, slice_get, slice_set, refl, sym, ap, ◌∙◌, subst, arith, eqb-true}
-use Rattle.std.proofs.lemmas.Bool.{eqb-false}
+use Rattle.std.proofs.Common.{◌≡◌, ◌≤◌, ◌<◌, ◌+◌, ◌-◌, ◌*◌, ◌==◌, ◌&&◌, ℕ, zero, suc, Bool, true, false, List, [], ◌∷◌, ◌++◌, length, take, drop, Option, Some, get_or, slice_get, slice_set, refl, sym, ap, ◌∙◌, subst, arith, eqb-true}
+use Rattle.std.specs.List.{list_all}
+use Rattle.std.specs.Prelude.{nat_le}
+use Rattle.std.proofs.lemmas.Bool.{eqb-false, and_parts, le-leb}
 use Rattle.std.specs.Global.{Vec}
-use Rattle.cx_turn.specs.declared.view.View.{View}
-use Rattle.cx_machine.specs.Machine.{State, opening}
+use Rattle.cx_machine.specs.Machine.{opening}
 use Rattle.cx_scene.specs.declared.declared.Object.{Object}
+use Rattle.cx_scene.specs.declared.declared.Object.TheVariants as objects
 use Rattle.cx_scene.specs.Scene.{kind_of}
 use Rattle.cx_items.specs.Memory.{nothing}
 use Rattle.cx_kinds.specs.declared.access.Access.{Access}
-use Rattle.cx_kinds.specs.Accesses.{RunObject, object_of, opens, Knows, kept_of}
-use Rattle.cx_asks.specs.Scenes.{count_of}
+use Rattle.cx_kinds.specs.Accesses.{RunObject, object_of, IsOf, is_made, Knows, kept_of}
+use Rattle.cx_asks.specs.Scenes.{count_of, is_object_now, is_completion_now}
 use Rattle.cx_kinds.specs.Sights.{IsNew as IsMadeNew}
 use Rattle.cx_work.specs.Accesses.{IsMadeAs, AreMadeAs, objects_of}
 use Rattle.cx_work.specs.RunNow.{IsNewAccess, AreNew, AreAllNew}
+use Rattle.cx_work.proofs.Copying.{all_here}
 use Rattle.cx_work.proofs.Stepping.{at_index, is_within, set_same, set_other, set_length, objects_length}
 
 -- ---- lists
@@ -42,6 +45,20 @@ below (suc o) (suc n) low differ = let rest = below o n (omega (arith, low)) (λ
 
 -- ---- main's accesses to objects of the first declarations
 
+-- what a run may declare may be made
+made_now : (d : Object) → is_object_now d ≡ true → is_made d ≡ true
+made_now (objects.Mutex numbers) h = le-leb numbers 8 (let e = eqb-true numbers 0 h in omega (arith, e))
+made_now objects.Recursive h = refl
+made_now objects.Shared h = refl
+made_now (objects.Semaphore count max) h = h
+made_now (objects.Latch count) h = h
+made_now (objects.Barrier count small) h = (and_parts (nat_le 1 count && nat_le count 4096) (is_completion_now small) h).0
+made_now objects.Once h = refl
+made_now _ h = cc
+
+pub declared_made : (ds : List Object) (i : ℕ) (d : Object) → list_all is_object_now ds ≡ true → i < length ds → d ≡ get_or ds i d → is_made d ≡ true
+declared_made ds i d now low read = made_now d (subst (λ (x : Object). is_object_now x ≡ true) (sym read) (all_here is_object_now ds i d now low))
+
 pub record SomeMade (ds : List Object) (i : ℕ) (threads left : ℕ) (ks : List Access) : Type 0 where
   pub within : i ≤ length ds
   pub count : length ks ≡ i
@@ -57,9 +74,9 @@ none_made ds threads left ks none = rw none (record {
 })
 
 -- what is made of a declaration opens so, and is new
-pub made_is_new : (d : Object) (threads : ℕ) (k : Access) → IsMadeNew threads (opening (kind_of d)) (count_of d) (Knows k) → kept_of k ≡ nothing → IsMadeAs d (object_of k) × IsNewAccess (object_of k) threads 0 (131072 * threads) 0 k
-made_is_new d threads k new free = (
-  sym new.seen.started,
+pub made_is_new : (d : Object) (threads : ℕ) (k : Access) → IsMadeNew threads (opening (kind_of d)) (count_of d) (Knows k) → IsOf d (object_of k) → kept_of k ≡ nothing → IsMadeAs d (object_of k) × IsNewAccess (object_of k) threads 0 (131072 * threads) 0 k
+made_is_new d threads k new is_of free = (
+  record { opens_so = sym new.seen.started; is_of = is_of },
   record { object = refl; free = free; view = _; seen = new.seen; new = record { seated = refl; numbered = refl; front = refl; mine = refl; taken = refl; may = refl; split = refl } },
 )
 
@@ -86,9 +103,9 @@ at_get {A} xs i x low = go xs i low
     go (y ∷ ys) zero h = refl
     go (y ∷ ys) (suc j) h = go ys j (omega (arith, h))
 
-pub one_more_pushed : (ds : List Object) (i : ℕ) (threads : ℕ) (ks ks' : List Access) (d : Object) (k : Access) → SomeMade ds i threads (131072 * threads) ks → i < length ds → d ≡ get_or ds i d → IsMadeNew threads (opening (kind_of d)) (count_of d) (Knows k) → kept_of k ≡ nothing → ks' ≡ ks ++ k ∷ [] → SomeMade ds (i + 1) threads (131072 * threads) ks'
-one_more_pushed ds i threads ks ks' d k made low read new free more =
-    let n = made_is_new d threads k new free in
+pub one_more_pushed : (ds : List Object) (i : ℕ) (threads : ℕ) (ks ks' : List Access) (d : Object) (k : Access) → SomeMade ds i threads (131072 * threads) ks → i < length ds → d ≡ get_or ds i d → IsMadeNew threads (opening (kind_of d)) (count_of d) (Knows k) → IsOf d (object_of k) → kept_of k ≡ nothing → ks' ≡ ks ++ k ∷ [] → SomeMade ds (i + 1) threads (131072 * threads) ks'
+one_more_pushed ds i threads ks ks' d k made low read new is_of free more =
+    let n = made_is_new d threads k new is_of free in
     rw more (one_more_made ds i threads (131072 * threads) ks d k made (read_at ds i d low read) n.0 n.1)
 
 -- an object at a place is that of the access there

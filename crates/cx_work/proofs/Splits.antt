@@ -12,10 +12,10 @@ use Rattle.cx_kinds.specs.Accesses.{RunObject, object_of, Knows, kept_of, share_
 use Rattle.cx_kinds.specs.Acts.{CanSplit}
 use Rattle.cx_kinds.specs.Sights.{IsSeen, MaySplit, SplitInto}
 use Rattle.cx_work.specs.Accesses.{AreMadeAs, objects_of}
-use Rattle.cx_work.specs.RunNow.{IsNew, IsNewAccess, AreNew, AreAllNew, objects_of_all}
+use Rattle.cx_work.specs.RunNow.{IsNewAccess, AreNew, AreAllNew, objects_of_all}
 use Rattle.cx_work.proofs.Going.{same_view}
 use Rattle.cx_work.proofs.Newness.{new_objects}
-use Rattle.cx_work.proofs.Rows.{RowMade, RowsMade, row_goes_on, rows_written, rows_end, less_left, read_at, at_get}
+use Rattle.cx_work.proofs.Rows.{RowMade, RowsMade, row_goes_on, rows_written, rows_end, less_left, at_get}
 use Rattle.cx_work.proofs.Shares.{RowShared, shares_go_on}
 use Rattle.cx_work.proofs.Stepping.{at_index}
 

@@ -1,22 +1,21 @@
 -- What a step of a thread promises of its accesses.
-use Rattle.std.proofs.Common.{◌≡◌, ℕ, zero, suc, ◌<◌, ◌==◌, Bool, true, false, List, [], ◌∷◌, length, map, Option, Some, None, slice_get, slice_set, if◌then◌else◌, refl, sym, ap, ◌∙◌, subst, arith, eqb-true}
+use Rattle.std.proofs.Common.{◌≡◌, ℕ, zero, suc, ◌<◌, ◌==◌, Bool, true, false, List, [], ◌∷◌, length, Option, Some, None, slice_get, slice_set, if◌then◌else◌, refl, sym, ap, ◌∙◌, subst, arith, eqb-true}
 use Rattle.std.proofs.lemmas.Bool.{eqb-false}
 use Rattle.cx_names.specs.declared.ObjectNo.{ObjectNo}
 use Rattle.cx_names.specs.declared.Reply.{Reply}
 use Rattle.cx_machine.specs.declared.kind.Entry.{Entry}
-use Rattle.cx_machine.specs.declared.kind.Look.{Look}
 use Rattle.cx_machine.specs.Machine.{State}
 use Rattle.cx_turn.specs.declared.view.View.{View}
 use Rattle.cx_scene.specs.declared.declared.Object.{Object}
 use Rattle.cx_scene.specs.Scene.{Scene}
 use Rattle.cx_items.specs.declared.item.Item.{Item}
 use Rattle.cx_items.specs.declared.item.Item.TheVariants as items
-use Rattle.cx_fronts.specs.Paths.{Fronts, nothing, put, Goes}
+use Rattle.cx_fronts.specs.Paths.{Fronts, nothing, put}
 use Rattle.cx_fronts.specs.Promises.{PromisesOne}
 use Rattle.cx_fronts.proofs.Grown.{reply_goes}
 use Rattle.cx_kinds.specs.declared.access.Access.{Access}
 use Rattle.cx_kinds.specs.Accesses.{RunObject, object_of, Knows}
-use Rattle.cx_work.specs.Accesses.{AreMadeAs, IsAccess, AreAccesses, Shows, AreShown, GoesBy, Made, objects_of}
+use Rattle.cx_work.specs.Accesses.{AreMadeAs, IsAccess, AreAccesses, Shows, AreShown, Made, objects_of}
 use Rattle.cx_work.specs.Steps.{ActsOn}
 use Rattle.cx_work.proofs.Going.{IsOn, same_view, remains, item_path}
 

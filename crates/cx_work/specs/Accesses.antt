@@ -1,5 +1,5 @@
 -- What a clause says of a thread's accesses to the objects.
-use Rattle.std.specs.Prelude.{◌≡◌, ◌⊎◌, ℕ, List, [], map, length, slice_get, Some, None}
+use Rattle.std.specs.Prelude.{◌≡◌, ◌⊎◌, ◌≤◌, ℕ, List, [], map, length, slice_get, Some, None}
 use Rattle.cx_machine.specs.declared.kind.Entry.{Entry}
 use Rattle.cx_machine.specs.Machine.{State, opening}
 use Rattle.cx_turn.specs.declared.view.View.{View}
@@ -9,16 +9,18 @@ use Rattle.cx_scene.specs.Scene.{kind_of}
 use Rattle.cx_items.specs.declared.item.Item.{Item}
 use Rattle.cx_items.specs.declared.item.Item.TheVariants as items
 use Rattle.cx_items.specs.Memory.{nothing}
+use Rattle.cx_fronts.specs.Positions.{positions}
 use Rattle.cx_fronts.specs.Paths.{Fronts}
 use Rattle.cx_kinds.specs.declared.access.Access.{Access}
-use Rattle.cx_kinds.specs.Accesses.{RunObject, object_of, opens, Knows, kept_of}
+use Rattle.cx_kinds.specs.Accesses.{RunObject, object_of, opens, IsOf, Knows, kept_of}
 use Rattle.cx_kinds.specs.AnyKind.{any_kind}
 
 -- ---- objects
 
--- the object is one of this declaration: it opens so
-abbrev pub IsMadeAs : Object → RunObject → Type 0
-IsMadeAs d x = opens x ≡ opening (kind_of d)
+-- the object is one of this declaration, and opens so
+pub record IsMadeAs (d : Object) (x : RunObject) : Type 0 where
+  pub opens_so : opens x ≡ opening (kind_of d)
+  pub is_of : IsOf d x
 
 -- the objects are those of the declarations, by their numbers
 pub record AreMadeAs (ds : List Object) (xs : List RunObject) : Type 0 where
@@ -57,6 +59,10 @@ Shows k f = (v : View State) × Knows k v × (v.front ≡ f)
 pub record AreShown (ks : List Access) (f : Fronts) : Type 0 where
   pub each : (o : ℕ) (k : Access) → slice_get ks o ≡ Some k → Shows k (f o)
   pub none : (o : ℕ) → slice_get ks o ≡ None → f o ≡ []
+
+-- what they have seen was made by the first n threads alone
+abbrev pub AreSeated : ℕ → List Access → Type 0
+AreSeated n ks = (o : ℕ) (k : Access) → slice_get ks o ≡ Some k → (v : View State) → Knows k v → (t : ℕ) → n ≤ t → positions t 0 v.front ≡ []
 
 -- ---- what an item is to an access
 

@@ -1,5 +1,5 @@
 -- What a thread's body promises of its list and its accesses.
-use Rattle.std.specs.Prelude.{◌≡◌, ℕ, true, false, List, []}
+use Rattle.std.specs.Prelude.{◌≡◌, ◌<◌, ℕ, true, false, List, [], length}
 use Rattle.std.specs.Arc.{arc_value}
 use Rattle.cx_scene.specs.Scene.{Scene, scene_of}
 use Rattle.cx_items.specs.declared.item.Item.{Item}
@@ -15,7 +15,7 @@ use Rattle.cx_work.specs.declared.objects.Objects.{Objects}
 use Rattle.cx_work.specs.declared.standing.Standing.{Standing}
 use Rattle.cx_work.specs.declared.work.Work.{Work}
 use Rattle.cx_work.specs.declared.work.Ended.{Ended}
-use Rattle.cx_work.specs.Accesses.{AreMadeAs, AreAccesses, AreShown, HoldNothing, objects_of}
+use Rattle.cx_work.specs.Accesses.{AreMadeAs, AreAccesses, AreShown, AreSeated, HoldNothing, objects_of}
 use Rattle.cx_work.specs.Steps.{StandsAt, IsAt}
 
 -- the thread has gone from the accesses that it had before to these by its list, and stands where the list leads
@@ -27,11 +27,12 @@ pub record Goes (s : Scene) (before : List Access) (t : ℕ) (ks : List Access) 
 abbrev pub IsUnderway : Scene → List Access → Standing → Type 0
 IsUnderway s before x = Goes s before x.thread.0 x.accesses.items x.list.items x.local
 
--- the thread's list is that of its whole body, and leads from what its accesses showed to what they show
+-- the thread's list is that of its whole body, and leads from what its accesses showed to what they show, which threads of the scenario made
 pub record IsBody (s : Scene) (t : ℕ) (before : List Access) (list : List Item) (later : List Access) : Type 0 where
   pub promised : Promised s t (AreShown before) list (AreShown later)
   pub whole : (f : Fronts) → AreShown later f → IsWholeBy s t f list
   pub formed : AreItems s t list
+  pub seated : AreSeated (length s.threads) later
 
 abbrev pub scene_in : Objects → Scene
 scene_in o = scene_of (arc_value o.plan)
@@ -43,9 +44,10 @@ module _ {G : Type 0} where
   abbrev pub objects_in : Work G → List RunObject
   objects_in w = objects_of w.standing.accesses.items
 
-  -- what the job needs: the objects are those of the scenario, and the thread stands at the start of its body with its accesses
+  -- what the job needs: the objects are those of the scenario, and a thread other than main stands at the start of its body with its accesses
   pub record Needs (w : Work G) : Type 0 where
     pub asks : IsAskable (scene_in w.objects)
+    pub other : 0 < w.standing.thread.0
     pub made : AreMadeAs (scene_in w.objects).objects (objects_in w)
     pub accesses : AreAccesses (objects_in w) w.standing.thread.0 w.standing.accesses.items
     pub at_ : IsAt (scene_in w.objects) w.standing

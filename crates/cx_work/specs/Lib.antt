@@ -1,4 +1,5 @@
 pub mod Accesses
+pub mod Reserves
 pub mod Acting
 pub mod Steps
 pub mod Bodies

@@ -1,5 +1,5 @@
 -- Which scenarios are run on real objects.
-use Rattle.std.specs.Prelude.{◌≡◌, ℕ, min, zero, suc, ◌+◌, Bool, true, false, List, ◌∷◌, ◌-◌, ◌<◌, [], length, slice_get, Some}
+use Rattle.std.specs.Prelude.{◌≡◌, ℕ, min, zero, suc, Bool, true, false, List, ◌∷◌, ◌-◌, ◌<◌, [], length, slice_get, Some}
 use Rattle.std.specs.Global.{Vec}
 use Rattle.cx_scene.specs.declared.call.Call.{Call}
 use Rattle.cx_scene.specs.declared.call.Call.TheVariants as calls
@@ -28,6 +28,15 @@ is_call_now (calls.CountDown l n) = true
 is_call_now (calls.WaitLatch l) = true
 is_call_now (calls.TryWait l) = true
 is_call_now (calls.ArriveAndWaitLatch l) = true
+is_call_now (calls.LockShared o) = true
+is_call_now (calls.TryLockShared o) = true
+is_call_now (calls.UnlockShared o) = true
+is_call_now (calls.CallOnceReturn o) = true
+is_call_now (calls.CallOnceThrow o n) = true
+is_call_now (calls.Arrive b n) = true
+is_call_now (calls.WaitBarrier b) = true
+is_call_now (calls.ArriveAndWait b) = true
+is_call_now (calls.ArriveAndDrop b) = true
 is_call_now (calls.Start u) = true
 is_call_now (calls.Join u) = true
 is_call_now _ = false

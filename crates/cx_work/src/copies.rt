@@ -68,6 +68,12 @@ fn copy_of_object(object: &Object) -> Object
             max: *max,
         },
         Object::Latch { count } => Object::Latch { count: *count },
+        Object::Shared => Object::Shared,
+        Object::Once => Object::Once,
+        Object::Barrier { count, small } => Object::Barrier {
+            count: *count,
+            small: *small,
+        },
         _ => unreachable!(),
     }
 }
@@ -91,6 +97,15 @@ fn copy_of_call(call: &Call) -> Call
         Call::WaitLatch(l) => Call::WaitLatch(*l),
         Call::TryWait(l) => Call::TryWait(*l),
         Call::ArriveAndWaitLatch(l) => Call::ArriveAndWaitLatch(*l),
+        Call::LockShared(o) => Call::LockShared(*o),
+        Call::TryLockShared(o) => Call::TryLockShared(*o),
+        Call::UnlockShared(o) => Call::UnlockShared(*o),
+        Call::CallOnceReturn(o) => Call::CallOnceReturn(*o),
+        Call::CallOnceThrow(o, n) => Call::CallOnceThrow(*o, *n),
+        Call::Arrive(b, n) => Call::Arrive(*b, *n),
+        Call::WaitBarrier(b) => Call::WaitBarrier(*b),
+        Call::ArriveAndWait(b) => Call::ArriveAndWait(*b),
+        Call::ArriveAndDrop(b) => Call::ArriveAndDrop(*b),
         Call::Start(u) => Call::Start(*u),
         Call::Join(u) => Call::Join(*u),
         _ => unreachable!(),

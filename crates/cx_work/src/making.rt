@@ -9,7 +9,7 @@ ghost use Rattle.cx_work.specs.Accesses.{AreMadeAs, objects_of};
 use crate::copies::copy_of;
 use crate::objects::Objects;
 use cx_kinds::{Access, made};
-use cx_names::{NoMemory, ObjectNo, PASS_CHANGES, ThreadNo};
+use cx_names::{NoMemory, PASS_CHANGES, ThreadNo};
 use cx_scene::{Call, Object, Plan};
 use std::alloc::Global;
 use std::sync::Arc;
@@ -21,27 +21,20 @@ pub struct Passes {
     pub threads: Vec<Vec<Access>>,
 }
 
-/// The object at place `o`.
-fn object_at(o: usize) -> Result<ObjectNo, NoMemory>
-    ensures { IfOk result (λ n. n.0 ≡ o) }
-{
-    Ok(ObjectNo(u32::try_from(o).ok().ok_or(NoMemory)?))
-}
-
 /// How much of the counter of latch `o` a call takes.
-fn takes_of(call: &Call, o: ObjectNo) -> u32
-    ensures { result ≡ takes_of o.0 call.now }
+fn takes_of(call: &Call, o: usize) -> u32
+    ensures { result ≡ takes_of o call.now }
 {
     match call {
-        Call::CountDown(l, n) => { if l.0 == o.0 { *n } else { 0 } }
-        Call::ArriveAndWaitLatch(l) => { if l.0 == o.0 { 1 } else { 0 } }
+        Call::CountDown(l, n) => { if l.0 as usize == o { *n } else { 0 } }
+        Call::ArriveAndWaitLatch(l) => { if l.0 as usize == o { 1 } else { 0 } }
         _ => 0,
     }
 }
 
 /// How much of the counter of latch `o` these calls take, or the greatest number if that is more.
-fn taken_by(calls: &[Call], o: ObjectNo) -> u32
-    ensures { result ≡ min 4294967295 (takings o.0 calls.now) }
+fn taken_by(calls: &[Call], o: usize) -> u32
+    ensures { result ≡ min 4294967295 (takings o calls.now) }
 {
     let mut taken: u32 = 0;
     for i in 0..calls.len() {
@@ -68,7 +61,7 @@ fn row_of(
     let thread = ThreadNo(splits + 1);
     let mut row = Vec::with_capacity(alloc, main.len())?;
     for o in 0..main.len() {
-        let share = taken_by(plan.body(thread), object_at(o)?);
+        let share = taken_by(plan.body(thread), o);
         let access = main[o].split(PASS_CHANGES, share)?;
         row.push(access)?;
     }
@@ -99,10 +92,11 @@ impl Objects {
     /// share of a latch is what its own text takes from it, as far as main has it; what is left stays with
     /// main.
     ///
-    /// `plan` has 1 to 64 threads, all plain. Its objects are mutexes without numbers, recursive mutexes,
-    /// semaphores and latches, its calls are on these or start and join, and it has no callbacks. A
-    /// semaphore's greatest value is 1 to 65,535 and its count at most that; a latch's count is at most
-    /// 65,535. `NoMemory` where memory doesn't suffice.
+    /// `plan` has 1 to 64 threads, all plain. Its objects are mutexes without numbers, recursive and shared
+    /// mutexes, semaphores, latches, once flags and barriers whose completion, if there is one, releases a
+    /// semaphore; its calls are on these or start and join, and it has no callbacks. A semaphore's greatest
+    /// value is 1 to 65,535 and its count at most that; a latch's count is at most 65,535, a barrier's 1 to
+    /// 4,096. `NoMemory` where memory doesn't suffice.
     pub fn make(alloc: Global, plan: &Plan) -> Result<(Objects, Passes), NoMemory>
         requires now { IsRunNow (scene_of plan.now) }
         requires threads { (1 ≤ vec_len plan.now.threads) × (vec_len plan.now.threads ≤ 64) }

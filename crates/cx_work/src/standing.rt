@@ -35,11 +35,12 @@ pub struct Standing {
 
 impl Standing {
     ghost use Rattle.cx_work.specs.Acting.{LeavesIt};
-    ghost use Rattle.cx_work.specs.Steps.{StepsOn, is_made_alone, forms_at, IsNext, IsAt};
+    ghost use Rattle.cx_work.specs.Reserves.{AreEnough};
+    ghost use Rattle.cx_work.specs.Steps.{StepsOn, is_made_alone, begins_control, forms_at, IsNext, IsAt, HasMade};
 
     /// Thread `thread` of the scenario at the start of its body [thread.thread.constr], with these accesses,
-    /// and with a list for `room` items: `room_for` tells how many to have. `NoMemory` where memory doesn't
-    /// suffice.
+    /// which hold nothing and suffice for its text, and with a list for `room` items: `room_for` tells how
+    /// many to have. `NoMemory` where memory doesn't suffice.
     pub fn start(
         alloc: Global,
         plan: &Plan,
@@ -47,6 +48,7 @@ impl Standing {
         accesses: Vec<Access>,
         room: usize,
     ) -> Result<Standing, NoMemory>
+        requires enough { AreEnough (scene_of plan.now) thread.0 accesses.items [] }
         ensures at { IfOk result (λ r. IsAt (scene_of plan.now) r) }
         ensures list { IfOk result (λ r. r.list.items ≡ []) }
         ensures accesses { IfOk result (λ r. (r.thread ≡ thread) × (r.accesses ≡ accesses)) }
@@ -72,7 +74,7 @@ impl Standing {
         if self.local.is_ended(plan, self.thread) {
             return Ok(false);
         }
-        self.local.offered(plan, self.thread, &mut self.forms)?;
+        self.local.offered_now(plan, self.thread, &mut self.forms)?;
         Ok(true)
     }
 
@@ -87,14 +89,15 @@ impl Standing {
     /// for other threads where that call may.
     ///
     /// `plan` is the scenario to whose objects the thread has its accesses, and the forms are those of what is
-    /// next where the thread stands. `NoMemory` where memory doesn't suffice, and for a start or a join, which
-    /// aren't made here. The thread makes no further item then.
+    /// next where the thread stands, no start and no join. `NoMemory` where memory doesn't suffice. The thread
+    /// makes no further item then.
     pub fn make<R: Wait>(&mut self, rt: &R, plan: &Plan) -> Result<Item, NoMemory>
         requires accesses { AreAccesses (objects_of self.old.accesses.items) self.old.thread.0 self.old.accesses.items }
         requires made { AreMadeAs (scene_of plan.now).objects (objects_of self.old.accesses.items) }
         requires asks { IsAskable (scene_of plan.now) }
         requires at { IsAt (scene_of plan.now) self.old }
-        requires next { self.old.forms.items ≡ forms_at (scene_of plan.now) self.old.thread.0 self.old.local }
+        requires next { IsNext (scene_of plan.now) self.old.thread.0 self.old.local true self.old.forms.items }
+        requires alone { begins_control self.old.forms.items ≡ false }
         ensures thread { self.new.thread ≡ self.old.thread }
         ensures accesses { AreAccesses (objects_of self.old.accesses.items) self.new.thread.0 self.new.accesses.items }
         ensures list { IfOk result (λ x. self.new.list.items ≡ self.old.list.items ++ x ∷ []) }
@@ -102,28 +105,30 @@ impl Standing {
         ensures alone { IfOk result (λ x. is_made_alone x ≡ true) }
         ensures at { OnOk result (IsAt (scene_of plan.now) self.new) }
     {
-        let item = self.made(rt, plan)?;
+        let item = self.made(rt, plan);
         let completing = leaves_completing(self.accesses.as_slice(), &item);
         self.put(plan, completing, item)?;
         Ok(item)
     }
 
     /// Makes the item that is next, which isn't in the list yet.
-    fn made<R: Wait>(&mut self, rt: &R, plan: &Plan) -> Result<Item, NoMemory>
+    fn made<R: Wait>(&mut self, rt: &R, plan: &Plan) -> Item
         requires accesses { AreAccesses (objects_of self.old.accesses.items) self.old.thread.0 self.old.accesses.items }
         requires made { AreMadeAs (scene_of plan.now).objects (objects_of self.old.accesses.items) }
         requires asks { IsAskable (scene_of plan.now) }
         requires at { IsAt (scene_of plan.now) self.old }
-        requires next { self.old.forms.items ≡ forms_at (scene_of plan.now) self.old.thread.0 self.old.local }
+        requires next { IsNext (scene_of plan.now) self.old.thread.0 self.old.local true self.old.forms.items }
+        requires alone { begins_control self.old.forms.items ≡ false }
         ensures same { (self.new.thread ≡ self.old.thread) × (self.new.list ≡ self.old.list) × (self.new.local ≡ self.old.local) }
         ensures accesses { AreAccesses (objects_of self.old.accesses.items) self.new.thread.0 self.new.accesses.items }
-        ensures steps { IfOk result (λ x. StepsOn self.old.accesses.items self.new.accesses.items x) }
-        ensures alone { IfOk result (λ x. is_made_alone x ≡ true) }
-        ensures fits { IfOk result (λ x. is_of_one (scene_of plan.now) (forms_at (scene_of plan.now) self.old.thread.0 self.old.local) x ≡ true) }
-        ensures formed { IfOk result (λ x. IsTrue (is_item (scene_of plan.now) self.old.thread.0 x)) }
+        ensures steps { StepsOn self.old.accesses.items self.new.accesses.items result }
+        ensures alone { is_made_alone result ≡ true }
+        ensures enough { AreEnough (scene_of plan.now) self.old.thread.0 self.new.accesses.items (self.old.list.items ++ result ∷ []) }
+        ensures fits { is_of_one (scene_of plan.now) (forms_at (scene_of plan.now) self.old.thread.0 self.old.local) result ≡ true }
+        ensures formed { IsTrue (is_item (scene_of plan.now) self.old.thread.0 result) }
     {
         match reply_in(self.forms.as_slice()) {
-            Some(reply) => Ok(Item::Said(reply)),
+            Some(reply) => Item::Said(reply),
             None => acted(rt, self.forms.as_slice(), &mut self.accesses),
         }
     }
@@ -131,14 +136,13 @@ impl Standing {
     /// Puts an item into the list that was made elsewhere, as main's starts and joins
     /// [thread.thread.constr, thread.thread.member].
     ///
-    /// `item` is of a form that the text offers where the thread stands, and one that the thread may have in
-    /// a record, after which no completion is due; `plan` is the scenario. After `NoMemory` the thread makes no
-    /// further item.
+    /// `item` is a start or a join of a form that the text offers where the thread stands, and one that the
+    /// thread may have in a record; `plan` is the scenario. After `NoMemory` the thread makes no further item.
     pub fn take(&mut self, plan: &Plan, item: Item) -> Result<(), NoMemory>
         requires at { IsAt (scene_of plan.now) self.old }
         requires fits { is_of_one (scene_of plan.now) (forms_at (scene_of plan.now) self.old.thread.0 self.old.local) item ≡ true }
         requires formed { IsTrue (is_item (scene_of plan.now) self.old.thread.0 item) }
-        requires undue { LeavesIt (scene_of plan.now) self.old.accesses.items item false }
+        requires control { is_made_alone item ≡ false }
         ensures same { (self.new.thread ≡ self.old.thread) × (self.new.accesses ≡ self.old.accesses) }
         ensures list { OnOk result (self.new.list.items ≡ self.old.list.items ++ item ∷ []) }
         ensures at { OnOk result (IsAt (scene_of plan.now) self.new) }
@@ -146,9 +150,9 @@ impl Standing {
         self.put(plan, false, item)
     }
 
-    /// Puts an item into the list, after which a completion is due or not.
+    /// Puts an item into the list that the accesses have made, after which a completion is due or not.
     fn put(&mut self, plan: &Plan, completing: bool, item: Item) -> Result<(), NoMemory>
-        requires at { IsAt (scene_of plan.now) self.old }
+        requires at { HasMade (scene_of plan.now) self.old.thread.0 self.old.accesses.items self.old.list.items item self.old.local }
         requires fits { is_of_one (scene_of plan.now) (forms_at (scene_of plan.now) self.old.thread.0 self.old.local) item ≡ true }
         requires formed { IsTrue (is_item (scene_of plan.now) self.old.thread.0 item) }
         requires due { LeavesIt (scene_of plan.now) self.old.accesses.items item completing }

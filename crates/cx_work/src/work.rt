@@ -1,11 +1,12 @@
 //! The job of a thread: its body on real objects.
-ghost use Rattle.std.specs.Prelude.{◌≡◌, ◌≤◌, ◌∷◌, ◌+◌, ◌*◌, [], IfOk, OnOk, true, false, length, vec_len};
+ghost use Rattle.std.specs.Prelude.{◌≡◌, ◌≤◌, ◌<◌, ◌∷◌, ◌+◌, ◌-◌, ◌*◌, ◌^◌, [], min, IfOk, OnOk, true, false, length, vec_len};
 ghost use Rattle.cx_scene.specs.Scene.{scene_of, body_of};
 ghost use Rattle.cx_items.specs.Next.{is_ended};
 ghost use Rattle.cx_items.specs.Steps.{local_of};
 ghost use Rattle.cx_fronts.specs.Counts.{change_count};
 ghost use Rattle.cx_asks.specs.Scenes.{IsAskable};
 ghost use Rattle.cx_work.specs.Bodies.{IsBody, IsUnderway};
+ghost use Rattle.cx_work.specs.Reserves.{AreEnough};
 ghost use Rattle.cx_work.specs.Steps.{IsAt};
 ghost use Rattle.cx_work.specs.Accesses.{AreMadeAs, AreAccesses, HoldNothing, objects_of};
 
@@ -49,14 +50,13 @@ pub struct Ended {
     pub failed: bool,
 }
 
-/// How many items to reserve for the body of thread `thread`, which is one of the plan's: eight for each
-/// call of its text, and one for each object. `NoMemory` where there are more than a list may have.
-pub fn room_for(plan: &Plan, thread: ThreadNo) -> Result<usize, NoMemory>
-    ensures { IfOk result (λ room. room ≡ length (body_of (scene_of plan.now) thread.0) * 8 + vec_len plan.now.objects) }
+/// How many items to reserve for the body of thread `thread`: eight for each call of its text, and one for
+/// each object, or the greatest number if that is more.
+pub fn room_for(plan: &Plan, thread: ThreadNo) -> usize
+    ensures { result ≡ min (2 ^ 64 - 1) (length (body_of (scene_of plan.now) thread.0) * 8 + vec_len plan.now.objects) }
 {
-    let calls = plan.body(thread).len().checked_mul(ITEMS_OF_A_CALL);
-    let room = calls.ok_or(NoMemory)?.checked_add(plan.objects.len());
-    room.ok_or(NoMemory)
+    let calls = plan.body(thread).len().saturating_mul(ITEMS_OF_A_CALL);
+    calls.saturating_add(plan.objects.len())
 }
 
 /// 1 for a change, and 0 for another item.
@@ -89,6 +89,7 @@ fn make_all<R: Wait, G: Gate>(
     gate: &G,
 ) -> Result<(), NoMemory>
     requires asks { IsAskable (scene_of plan.now) }
+    requires other { 0 < standing.old.thread.0 }
     requires made { AreMadeAs (scene_of plan.now).objects (objects_of standing.old.accesses.items) }
     requires under_way { IsUnderway (scene_of plan.now) standing.old.accesses.items standing.old }
     ensures thread { standing.new.thread ≡ standing.old.thread }
@@ -110,10 +111,11 @@ fn make_all<R: Wait, G: Gate>(
 impl<G: Gate + Send + Sync> Work<G> {
     ghost use Rattle.cx_work.specs.Bodies.{Needs, scene_in};
 
-    /// The body of thread `thread` of the scenario, with that thread's accesses to these objects. `gate` is called round each call of its text.
+    /// The body of thread `thread` of the scenario, which is not main, with that thread's accesses to these
+    /// objects, which hold nothing and suffice for its text. `gate` is called round each call of its text.
     ///
-    /// `NoMemory` where memory doesn't suffice. The list's room is taken here; a call that begins again, a
-    /// level of a recursive mutex and the place in the text take more as the body runs.
+    /// `NoMemory` where memory doesn't suffice. The list's room and that of the place in the text are taken
+    /// here; a call that begins again takes more as the body runs.
     pub fn new(
         alloc: Global,
         objects: Objects,
@@ -122,12 +124,14 @@ impl<G: Gate + Send + Sync> Work<G> {
         gate: Arc<G, Global>,
     ) -> Result<Work<G>, NoMemory>
         requires asks { IsAskable (scene_in objects) }
+        requires other { 0 < thread.0 }
         requires made { AreMadeAs (scene_in objects).objects (objects_of accesses.items) }
         requires accesses { AreAccesses (objects_of accesses.items) thread.0 accesses.items }
+        requires enough { AreEnough (scene_in objects) thread.0 accesses.items [] }
         ensures needs { IfOk result (λ w. Needs w) }
         ensures parts { IfOk result (λ w. (w.objects ≡ objects) × (w.standing.thread ≡ thread) × (w.standing.accesses ≡ accesses)) }
     {
-        let room = room_for(&objects.plan, thread)?;
+        let room = room_for(&objects.plan, thread);
         let standing = Standing::start(alloc, &objects.plan, thread, accesses, room)?;
         Ok(Work {
             standing,
@@ -140,6 +144,7 @@ impl<G: Gate + Send + Sync> Work<G> {
 /// Makes the calls of the body and the acts of its end.
 fn make_body<R: Wait, G: Gate>(rt: &R, plan: &Plan, mut standing: Standing, gate: &G) -> Ended
     requires asks { IsAskable (scene_of plan.now) }
+    requires other { 0 < standing.thread.0 }
     requires made { AreMadeAs (scene_of plan.now).objects (objects_of standing.accesses.items) }
     requires accesses { AreAccesses (objects_of standing.accesses.items) standing.thread.0 standing.accesses.items }
     requires at { IsAt (scene_of plan.now) standing }

@@ -6,6 +6,7 @@ use Rattle.cx_work.specs.declared.objects.Objects.{Objects}
 use Rattle.cx_work.specs.Bodies.{scene_in}
 use Rattle.cx_work.specs.RunNow.{objects_of_all}
 use Rattle.cx_run.specs.Runs.{tally, objects_at, KeepsTally, starts_in, refusals_in, steps_in}
+use Rattle.cx_run.proofs.Joined.{none_out, first_out, all_joined}
 use Rattle.cx_run.proofs.Righting.{from_ok, right_as}
 use Rattle.cx_run.proofs.Stepped.{own_run, own_kept, kept_objects}
 use Rattle.cx_run.proofs.Tallying.{tallied_first}
@@ -83,3 +84,22 @@ returns-clause-faults g c =
     let keeps : KeepsTally c.in_ok-run.run' before c.complete.new.self now = from_ok c.complete.result c.is_err.result c.if-is_err.false c.is_err.ensures.value c.complete.ensures.tally in
     let all_ = keeps before (tallied_first before c.in_ok-run.run'.main.list.items (steps_in c.in_ok-run.run'.others.items) c.in_ok-run.ensures.list.0 c.in_ok-run.ensures.list.1) in
     subst (λ (l : List Item). RaisedAtLeast (g.P.Spawner.faults c.args.spawner.now) (g.P.Spawner.faults c.complete.new.spawner) (refusals_in l)) (sym c.in_ok-record.ensures.list) all_.faults
+
+pub complete-requires-clause-mains : goal.complete-requires-clause-mains
+complete-requires-clause-mains g c κs within = c.in_ok-run.ensures.mains
+
+pub returns-clause-joined : goal.returns-clause-joined
+returns-clause-joined g c =
+    let come = from_ok c.complete.result c.is_err.result c.if-is_err.false c.is_err.ensures.value c.complete.ensures.come in
+    all_joined c.in_ok-run.run'.others.items c.complete.new.self.others.items _ _ _ _ c.in_ok-run.ensures.none_runs c.complete.ensures.out come
+
+pub returns-in_err-record-clause-joined : goal.returns-in_err-record-clause-joined
+returns-in_err-record-clause-joined g c =
+    let come = from_ok c.complete.result c.is_err.result c.if-is_err.false c.is_err.ensures.value c.complete.ensures.come in
+    all_joined c.in_ok-run.run'.others.items c.complete.new.self.others.items _ _ _ _ c.in_ok-run.ensures.none_runs c.complete.ensures.out come
+
+pub returns-then-is_err-clause-joined : goal.returns-then-is_err-clause-joined
+returns-then-is_err-clause-joined g c = c.give_up.ensures.joined _ _ (c.complete.ensures.out _ _ (first_out c.in_ok-run.run'.others.items _ _ c.in_ok-run.ensures.none_runs))
+
+pub returns-in_err-run-clause-joined : goal.returns-in_err-run-clause-joined
+returns-in_err-run-clause-joined g c = none_out _ _

@@ -1,4 +1,4 @@
-use Rattle.std.proofs.Common.{◌+◌, ◌-◌, ◌*◌, length, get_or, min, ap, refl, ◌∙◌, arith}
+use Rattle.std.proofs.Common.{◌+◌, ◌-◌, ◌*◌, get_or, min, ap, refl, ◌∙◌, arith}
 use Rattle.cx_scene.specs.Scene.{scene_of}
 use Rattle.cx_asks.specs.Scenes.{takings}
 use Rattle.cx_work.specs.Accesses.{objects_of}
@@ -29,8 +29,7 @@ loop-o-preserved c =
     let k' = c.split.new.self in
     let new = c.in_ok-access.ensures in
     let row = next_row (objects_of c.args.main.now) c.args.threads c.args.splits c.loop-o.o c.loop-o.main c.loop-o.row.items c.loop-o.invariant.0 c.index-main-o.result low k' q c.taken_by-share.result c.requires.room new.object new.same new.free.0 new.free.1 new.split in
-    let object = c.in_ok-object_at.ensures in
-    let takes = c.taken_by-share.ensures ∙ (ap (λ o. min 4294967295 (takings o c.body.result.now)) object ∙ ap (λ b. min 4294967295 (takings c.loop-o.o b)) c.body.ensures) in
+    let takes = c.taken_by-share.ensures ∙ ap (λ b. min 4294967295 (takings c.loop-o.o b)) c.body.ensures in
     let shares = next_shares (objects_of c.args.main.now) c.args.threads c.args.splits c.loop-o.o c.loop-o.main c.loop-o.row.items c.loop-o.invariant.0 c.index-main-o.result low (scene_of c.args.plan.now) (c.args.splits + 1) c.args.main.now k' q c.taken_by-share.result c.loop-o.invariant.1 takes new.split in
     (rw c.in_ok-push.ensures.items row, rw c.in_ok-push.ensures.items shares)
 

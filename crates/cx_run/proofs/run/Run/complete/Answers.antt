@@ -12,3 +12,6 @@ returns-clause-run g c = on_ok c.gather.result c.gather.ensures.run (λ run. bac
 
 pub returns-clause-tally : goal.returns-clause-tally
 returns-clause-tally g c = on_ok c.gather.result c.gather.ensures.tally (λ more base h. more base (c.in_ok-make_main.ensures.tally base h))
+
+pub returns-clause-out : goal.returns-clause-out
+returns-clause-out g c = λ a b h. c.gather.ensures.out a b (c.make_main.ensures.out a b h)

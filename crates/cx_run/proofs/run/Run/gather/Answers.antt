@@ -14,6 +14,7 @@ loop-i-preserved g c =
       local = one.main.1 ∙ before.local;
       many = ap length one.come.1 ∙ (length_set c.loop-i.self.others.items c.loop-i.i one.come.0 ∙ before.many);
       counts = λ base h. one.tally base (before.counts base h);
+      out = λ a b h. one.out a b (before.out a b h);
       come = come_more c.loop-i.self.others.items c.gather_one.new.self.others.items c.loop-i.i one.come.0 one.come.1 one.come.2 before.come;
     }
 
@@ -31,3 +32,6 @@ returns-clause-come g c = λ i p at_p.
 
 pub returns-in_err-gather_one-clause-kept : goal.returns-in_err-gather_one-clause-kept
 returns-in_err-gather_one-clause-kept g c = back_kept c.loop-i.self c.gather_one.new.self c.loop-i.invariant.run c.gather_one.ensures.kept
+
+pub returns-in_err-gather_one-clause-out : goal.returns-in_err-gather_one-clause-out
+returns-in_err-gather_one-clause-out g c = λ a b h. c.gather_one.ensures.out a b (c.loop-i.invariant.out a b h)

@@ -1,4 +1,4 @@
-use Rattle.std.proofs.Common.{◌≡◌, suc, slice_set, refl, ap, ◌∙◌}
+use Rattle.std.proofs.Common.{◌≡◌, suc, slice_set, refl, ap, ◌∙◌, arith}
 use Rattle.std.specs.Global.{Vec}
 use Rattle.cx_io.proofs.Counts.{raised_none}
 use Rattle.cx_work.specs.Bodies.{scene_in}
@@ -7,7 +7,8 @@ use Rattle.cx_fronts.specs.Counts.{change_count}
 use Rattle.cx_run.specs.declared.place.Place.{Place}
 use Rattle.cx_run.specs.declared.place.Place.TheVariants as places
 use Rattle.cx_run.specs.Runs.{tally, objects_at}
-use Rattle.cx_run.proofs.Parts.{vec_is, takes_as, place_was, waiting_accesses, left_kept, set_kept, runs_here, off_job, idle_run, late_run, later_tally, same_tally, same_kept, same_run, set_twice, set_back, set_same}
+use Rattle.cx_run.proofs.Parts.{vec_is, takes_as, place_was, waiting_accesses, left_kept, set_kept, runs_here, off_may, idle_run, late_run, later_tally, same_tally, same_kept, same_run, set_twice, set_back, set_same}
+use Rattle.cx_run.proofs.Joined.{same_running, same_places, joined_running, ran_set, idled_set}
 use Rattle.cx_run.proofs.Stepped.{own_as, others_as}
 use Rattle.cx_run.proofs.run.Run.gather_one.Goals as goal
 
@@ -24,11 +25,11 @@ take_all_in-requires-clause-others g c =
 pub await_end-requires-clause-kept : goal.await_end-requires-clause-kept
 await_end-requires-clause-kept g c κs within = left_kept c.args.self.now _ c.args.i c.replace.new.dest c.requires.run.kept c.replace.ensures.after refl refl refl refl
 
-pub await_end-requires-clause-job : goal.await_end-requires-clause-job
-await_end-requires-clause-job g c κs within =
+pub await_end-requires-clause-may : goal.await_end-requires-clause-may
+await_end-requires-clause-may g c κs within =
     let r = c.args.self.now in
     let t = c.in-Running.thread in
-    off_job (scene_in r.objects) (objects_at c.args.self.now) (suc c.args.i) (c.requires.run.goes.first (suc c.args.i)) t (runs_here r c.args.i t c.requires.run (place_was r.others.items c.args.i c.index_mut.result.now c.replace.result (places.Running t) c.requires.there c.index_mut.ensures.value c.replace.ensures.value c.in-Running.is))
+    off_may (scene_in r.objects) (objects_at c.args.self.now) (suc c.args.i) (c.requires.run.goes.first (suc c.args.i)) t (omega arith) (runs_here r c.args.i t c.requires.run (place_was r.others.items c.args.i c.index_mut.result.now c.replace.result (places.Running t) c.requires.there c.index_mut.ensures.value c.replace.ensures.value c.in-Running.is))
 
 pub returns-in-Waiting-clause-run : goal.returns-in-Waiting-clause-run
 returns-in-Waiting-clause-run g c =
@@ -132,3 +133,41 @@ returns-in-Idle-clause-run g c =
     let at_p = place_was r.others.items c.args.i c.index_mut.result.now c.replace.result places.Idle c.requires.there c.index_mut.ensures.value c.replace.ensures.value c.in-Idle.is in
     let same = set_same r.others.items c.args.i places.Idle c.replace.new.dest at_p c.replace.ensures.after in
     same_run r _ refl refl refl refl refl same c.requires.run
+
+pub returns-in-Waiting-clause-out : goal.returns-in-Waiting-clause-out
+returns-in-Waiting-clause-out g c =
+    let r = c.args.self.now in
+    let w = c.in-Waiting.work in
+    let at_p = place_was r.others.items c.args.i c.index_mut.result.now c.replace.result (places.Waiting w) c.requires.there c.index_mut.ensures.value c.replace.ensures.value c.in-Waiting.is in
+    let set_ = ap (λ (z : Place g.row.G.Denot). slice_set r.others.items c.args.i z) c.replace.ensures.after in
+    same_running r.others.items _ _ _ _ _ (idled_set r.others.items _ c.args.i (places.Waiting w) places.Idle at_p set_ refl refl) refl refl
+
+pub returns-in_ok-list-in-Running-clause-out : goal.returns-in_ok-list-in-Running-clause-out
+returns-in_ok-list-in-Running-clause-out g c =
+    let r = c.args.self.now in
+    let t = c.in-Running.thread in
+    let e : Place g.row.G.Denot = places.Ended c.in_ok-list-in-Running.list in
+    let at_p = place_was r.others.items c.args.i c.index_mut.result.now c.replace.result (places.Running t) c.requires.there c.index_mut.ensures.value c.replace.ensures.value c.in-Running.is in
+    let set_ : slice_set c.await_end.new.self.others.items c.args.i e ≡ slice_set r.others.items c.args.i e = ap (λ (v : Vec (Place g.row.G.Denot)). slice_set v.items c.args.i e) c.await_end.ensures.parts.1 ∙ set_twice r.others.items c.args.i c.replace.new.dest e in
+    joined_running r.others.items _ _ _ _ _ (ran_set r.others.items _ c.args.i t e at_p set_ refl) c.await_end.ensures.started c.await_end.ensures.joins
+
+pub returns-in_err-list-in-Running-clause-out : goal.returns-in_err-list-in-Running-clause-out
+returns-in_err-list-in-Running-clause-out g c =
+    let r = c.args.self.now in
+    let t = c.in-Running.thread in
+    let at_p = place_was r.others.items c.args.i c.index_mut.result.now c.replace.result (places.Running t) c.requires.there c.index_mut.ensures.value c.replace.ensures.value c.in-Running.is in
+    let set_ = ap (λ (v : Vec (Place g.row.G.Denot)). v.items) c.await_end.ensures.parts.1 ∙ ap (λ (z : Place g.row.G.Denot). slice_set r.others.items c.args.i z) c.replace.ensures.after in
+    joined_running r.others.items _ _ _ _ _ (ran_set r.others.items _ c.args.i t places.Idle at_p set_ refl) c.await_end.ensures.started c.await_end.ensures.joins
+
+pub returns-in-Ended-clause-out : goal.returns-in-Ended-clause-out
+returns-in-Ended-clause-out g c =
+    let r = c.args.self.now in
+    let e : Place g.row.G.Denot = places.Ended c.in-Ended.list in
+    let at_p = place_was r.others.items c.args.i c.index_mut.result.now c.replace.result e c.requires.there c.index_mut.ensures.value c.replace.ensures.value c.in-Ended.is in
+    same_places r.others.items _ _ _ _ _ (set_back r.others.items c.args.i e c.replace.new.dest at_p) refl refl
+
+pub returns-in-Idle-clause-out : goal.returns-in-Idle-clause-out
+returns-in-Idle-clause-out g c =
+    let r = c.args.self.now in
+    let at_p = place_was r.others.items c.args.i c.index_mut.result.now c.replace.result places.Idle c.requires.there c.index_mut.ensures.value c.replace.ensures.value c.in-Idle.is in
+    same_places r.others.items _ _ _ _ _ (set_same r.others.items c.args.i places.Idle c.replace.new.dest at_p c.replace.ensures.after) refl refl

@@ -1,17 +1,50 @@
-use Rattle.std.proofs.Common.{length, IfSome, refl, ◌∙◌}
-use Rattle.std.proofs.lemmas.Iterator.Consumers.{YieldsList-turn}
-use Rattle.std.proofs.lemmas.Iterator.Adapters.{YieldsList-from_vec}
-use Rattle.cx_jthread.specs.Threads.{job_to_join}
-use Rattle.cx_work.specs.Bodies.{Needs}
+use Rattle.std.proofs.Common.{◌≡◌, slice_set, refl, ap, ◌∙◌, arith}
+use Rattle.cx_run.specs.declared.place.Place.{Place}
 use Rattle.cx_run.specs.declared.place.Place.TheVariants as places
-use Rattle.cx_run.proofs.Parts.{place_was}
+use Rattle.cx_run.specs.Runs.{running_in}
+use Rattle.cx_run.proofs.Joined.{left_out, out_end, none_runs}
+use Rattle.cx_run.proofs.Keeping.{below, length_set}
+use Rattle.cx_run.proofs.Parts.{idle_may, may_set, place_was}
+use Rattle.cx_run.proofs.Stepped.{come_more}
 use Rattle.cx_run.proofs.run.Run.give_up.Goals as goal
 
-pub join-requires-clause-needs : goal.join-requires-clause-needs
-join-requires-clause-needs g c κs within =
-    let others = c.args.self.others.items in
-    let n = length c.loop-place.yielded in
-    let t = c.in-Running.thread in
-    let turn = YieldsList-turn (YieldsList-from_vec others c.into_iter-place-iterator.ensures.into_iter_gives.0 (c.into_iter-place-iterator.ensures.into_iter_gives.1 ∙ c.args.self.others.ok.0)) c.loop-place.yielded c.loop-place.place-iterator c.loop-place.yielded_by c.next.result c.next.new.self c.in-Some.place c.in-Some.is c.next.ensures.steps in
-    let may : IfSome (job_to_join t) Needs = c.requires.kept.may_run n (places.Running t) (place_was others n c.in-Some.place c.in-Some.place (places.Running t) turn.0 turn.1 refl c.in-Running.is) in
-    may
+pub loop-i-init : goal.loop-i-init
+loop-i-init g c = record { many = refl; may = c.requires.kept.may_run; out = λ a b h. h; come = λ j p low at_p. absurd (omega (arith, low)) }
+
+pub await_place-requires-clause-may : goal.await_place-requires-clause-may
+await_place-requires-clause-may g c κs within =
+    let low = c.loop-i-test.true in
+    let end = c.len-i-end.ensures in
+    let long = c.args.self.others.ok.0 in
+    let many = c.loop-i.invariant.many in
+    c.loop-i.invariant.may c.loop-i.i c.replace-place.result (place_was c.loop-i.others.items c.loop-i.i c.index_mut.result.now c.replace-place.result c.replace-place.result (omega (arith, low, end, long, many)) c.index_mut.ensures.value c.replace-place.ensures.value refl)
+
+pub loop-i-preserved : goal.loop-i-preserved
+loop-i-preserved g c =
+    let ps = c.loop-i.others.items in
+    let i = c.loop-i.i in
+    let q = c.replace-place.new.dest in
+    let low = c.loop-i-test.true in
+    let end = c.len-i-end.ensures in
+    let long = c.args.self.others.ok.0 in
+    let before = c.loop-i.invariant in
+    let many = before.many in
+    let at_p = place_was ps i c.index_mut.result.now c.replace-place.result c.replace-place.result (omega (arith, low, end, long, many)) c.index_mut.ensures.value c.replace-place.ensures.value refl in
+    let set_ : slice_set ps i q ≡ slice_set ps i places.Idle = ap (λ (z : Place g.row.G.Denot). slice_set ps i z) c.replace-place.ensures.after in
+    record {
+      many = length_set ps i q ∙ before.many;
+      may = may_set ps i q (idle_may q c.replace-place.ensures.after) before.may;
+      out = λ a b h. c.await_place.ensures.out a b (running_in (slice_set ps i q)) (left_out ps (slice_set ps i q) i c.replace-place.result a b _ _ at_p set_ (before.out a b h));
+      come = come_more ps (slice_set ps i q) i places.Idle set_ refl before.come;
+    }
+
+pub returns : goal.returns
+returns g c = record {
+  joined = λ a b h.
+      let ps = c.loop-i.others.items in
+      let end = c.len-i-end.ensures in
+      let long = c.args.self.others.ok.0 in
+      let many = c.loop-i.invariant.many in
+      let done = c.loop-i-test.false in
+      out_end ps a b _ _ (none_runs ps (λ j p at_p. let low = below ps j p at_p in c.loop-i.invariant.come j p (omega (arith, low, many, end, long, done)) at_p)) (c.loop-i.invariant.out a b h);
+}

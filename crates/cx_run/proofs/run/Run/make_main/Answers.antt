@@ -6,6 +6,7 @@ use Rattle.cx_items.specs.declared.item.Item.{Item}
 use Rattle.cx_kinds.specs.declared.access.Access.{Access}
 use Rattle.cx_run.specs.declared.run.Run.{Run}
 use Rattle.cx_run.specs.Runs.{tally}
+use Rattle.cx_run.proofs.Mains.{same_mains}
 use Rattle.cx_run.proofs.Parts.{same_run, same_tally}
 use Rattle.cx_run.proofs.Stepped.{own_run, back_kept, back_run, main_next}
 use Rattle.cx_run.proofs.run.Run.make_main.Goals as goal
@@ -43,6 +44,8 @@ loop-preserved g c =
           same_tally now r.main.list.items c.leave.new.self.list.items r.others.items r.others.items (ap (λ (v : Vec Item). v.items) c.leave.ensures.2) refl base
           (c.in_ok-item.ensures.tally base
           (same_tally before c.loop.self.main.list.items c.next-in-loop.new.self.list.items c.loop.self.others.items c.loop.self.others.items (ap (λ (v : Vec Item). v.items) (c.next-in-loop.ensures.same.2 ∙ c.enter.ensures.2)) refl base (c.loop.invariant.4 base h))),
+      same_mains r.main.list.items c.leave.new.self.list.items r.others.items r.others.items (ap (λ (v : Vec Item). v.items) c.leave.ensures.2) refl c.in_ok-item.ensures.mains,
+      λ a b h. c.step.ensures.out a b (c.loop.invariant.6 a b h),
     )
 
 pub returns-then-not-branch-clause-tally : goal.returns-then-not-branch-clause-tally
@@ -58,3 +61,18 @@ returns-in_err-item-clause-kept g c =
     let w : Run g.row.G.Denot = record { objects = v.objects; main = n; others = v.others } in
     let came = same_run v w refl (same.0 ∙ c.enter.ensures.0) (ap (λ (x : Vec Access). x.items) (same.1 ∙ c.enter.ensures.1)) (ap (λ (x : Vec Item). x.items) (same.2 ∙ c.enter.ensures.2)) (same.3 ∙ c.enter.ensures.3) refl c.loop.invariant.2 in
     back_kept w c.step.new.self came c.step.ensures.kept
+
+pub step-requires-clause-mains : goal.step-requires-clause-mains
+step-requires-clause-mains g c κs within =
+    let v = c.loop.self in
+    let n = c.next-in-loop.new.self in
+    same_mains v.main.list.items n.list.items v.others.items v.others.items (ap (λ (x : Vec Item). x.items) (c.next-in-loop.ensures.same.2 ∙ c.enter.ensures.2)) refl c.loop.invariant.5
+
+pub returns-then-not-branch-clause-out : goal.returns-then-not-branch-clause-out
+returns-then-not-branch-clause-out g c = c.loop.invariant.6
+
+pub returns-in_err-next-clause-out : goal.returns-in_err-next-clause-out
+returns-in_err-next-clause-out g c = c.loop.invariant.6
+
+pub returns-in_err-item-clause-out : goal.returns-in_err-item-clause-out
+returns-in_err-item-clause-out g c = λ a b h. c.step.ensures.out a b (c.loop.invariant.6 a b h)

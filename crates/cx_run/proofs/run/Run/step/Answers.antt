@@ -3,7 +3,9 @@ use Rattle.cx_scene.specs.declared.plan.Plan.{Plan}
 use Rattle.cx_scene.specs.Scene.{scene_of}
 use Rattle.cx_items.specs.declared.item.Control.{Control}
 use Rattle.cx_run.specs.Runs.{tally}
-use Rattle.cx_run.proofs.Stepped.{made_run, made_counts, start_is, join_is, launch_is_not}
+use Rattle.std.specs.Arc.{arc_value}
+use Rattle.cx_run.proofs.Mains.{made_mains}
+use Rattle.cx_run.proofs.Stepped.{made_run, made_counts, no_control, next_as, start_is, join_is, launch_is_not}
 use Rattle.cx_run.proofs.run.Run.step.Goals as goal
 
 pub returns-in-None-clause-run : goal.returns-in-None-clause-run
@@ -17,10 +19,22 @@ returns-in-None-clause-tally g c =
     made_counts now c.args.self.now.main.list.items c.make.new.self.list.items c.args.self.now.others.items c.make.result c.make.ensures.list c.make.ensures.alone
 
 pub start-requires-clause-next : goal.start-requires-clause-next
-start-requires-clause-next g c κs within = start_is c.args.self.now c.requires.run c.args.self.now.main.forms.items c.forms.result.now c.in-Some-Start.u _ c.control_in.result c.requires.next c.forms.ensures c.control_in.ensures (c.in-Some-Start.is ∙ ap (λ (x : Control). Some x) c.in-Some-Start.field-0-is)
+start-requires-clause-next g c κs within = start_is c.args.self.now c.requires.run c.args.self.now.main.forms.items c.forms.result.now c.in-Some-Start.u _ c.control_in.result c.requires.next.0 c.forms.ensures c.control_in.ensures (c.in-Some-Start.is ∙ ap (λ (x : Control). Some x) c.in-Some-Start.field-0-is)
 
 pub join-requires-clause-next : goal.join-requires-clause-next
-join-requires-clause-next g c κs within = join_is c.args.self.now c.requires.run c.args.self.now.main.forms.items c.forms.result.now c.in-Some-Join.u c.control_in.result c.requires.next c.forms.ensures c.control_in.ensures (c.in-Some-Join.is ∙ ap (λ (x : Control). Some x) c.in-Some-Join.field-0-is)
+join-requires-clause-next g c κs within = join_is c.args.self.now c.requires.run c.args.self.now.main.forms.items c.forms.result.now c.in-Some-Join.u c.control_in.result c.requires.next.0 c.forms.ensures c.control_in.ensures (c.in-Some-Join.is ∙ ap (λ (x : Control). Some x) c.in-Some-Join.field-0-is)
 
 pub unreachable-requires : goal.unreachable-requires
-unreachable-requires g c = launch_is_not c.args.self.now c.requires.run c.args.self.now.main.forms.items c.forms.result.now _ _ c.control_in.result c.requires.next c.forms.ensures c.control_in.ensures (c.in-Some-Launch.is ∙ ap (λ (x : Control). Some x) c.in-Some-Launch.field-0-is)
+unreachable-requires g c = launch_is_not c.args.self.now c.requires.run c.args.self.now.main.forms.items c.forms.result.now _ _ c.control_in.result c.requires.next.0 c.forms.ensures c.control_in.ensures (c.in-Some-Launch.is ∙ ap (λ (x : Control). Some x) c.in-Some-Launch.field-0-is)
+
+pub make-requires-clause-next : goal.make-requires-clause-next
+make-requires-clause-next g c = next_as c.deref.result.now (arc_value c.args.self.now.objects.plan) c.args.self.now.main.thread c.args.self.now.main.local c.args.self.now.main.forms.items c.deref.ensures c.requires.run.kept.thread c.requires.next
+
+pub make-requires-clause-alone : goal.make-requires-clause-alone
+make-requires-clause-alone g c = no_control c.args.self.now.main.forms.items c.forms.result.now c.control_in.result c.forms.ensures c.control_in.ensures c.in-None.is
+
+pub returns-in-None-clause-mains : goal.returns-in-None-clause-mains
+returns-in-None-clause-mains g c = made_mains c.args.self.now.main.list.items c.make.new.self.list.items c.args.self.now.others.items c.make.result c.make.ensures.list c.requires.mains
+
+pub returns-in-None-clause-out : goal.returns-in-None-clause-out
+returns-in-None-clause-out g c = λ a b h. h

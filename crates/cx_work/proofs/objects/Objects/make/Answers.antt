@@ -4,7 +4,7 @@ use Rattle.cx_scene.specs.declared.declared.Object.{Object}
 use Rattle.cx_asks.specs.Scenes.{count_at}
 use Rattle.cx_kinds.specs.declared.access.Access.{Access}
 use Rattle.cx_work.specs.Accesses.{AreMadeAs, objects_of}
-use Rattle.cx_work.specs.RunNow.{AreGiven, AreShared, AreAllNew, objects_of_all}
+use Rattle.cx_work.specs.RunNow.{AreGiven, AreAllNew, objects_of_all}
 use Rattle.cx_work.proofs.Rows.{rows_begin, as_long}
 use Rattle.cx_work.proofs.Shares.{rows_shared_begin, rows_shared_written, rows_shared_end}
 use Rattle.cx_work.proofs.Splits.{rows_first, rows_next, rows_all}

@@ -1,4 +1,3 @@
-use Rattle.std.proofs.Common.{length}
 use Rattle.cx_scene.specs.Scene.{scene_of}
 use Rattle.cx_work.specs.Accesses.{objects_of}
 use Rattle.cx_work.proofs.Rows.{RowsMade}

@@ -1,6 +1,4 @@
-use Rattle.std.proofs.Common.{refl, ◌∙◌, subst, sym, arith}
-use Rattle.std.specs.Global.{Vec}
-use Rattle.cx_kinds.specs.declared.access.Access.{Access}
+use Rattle.std.proofs.Common.{refl, arith}
 use Rattle.cx_work.proofs.Giving.{none_free, all_free, written_seen, written_accesses, written_free}
 use Rattle.cx_work.proofs.standing.Standing.give_up.Goals as goal
 
