@@ -5,6 +5,8 @@ use Rattle.std.specs.List.{list_all, flat_map}
 use Rattle.std.proofs.lemmas.Bool.{and_from, and_parts}
 use Rattle.cx_scene.specs.declared.declared.Callback.{Callback}
 use Rattle.cx_scene.specs.declared.declared.Object.{Object}
+use Rattle.cx_scene.specs.declared.declared.Small.{Small}
+use Rattle.cx_scene.specs.declared.declared.Small.TheVariants as smalls
 use Rattle.cx_scene.specs.declared.declared.Thread.{Thread}
 use Rattle.cx_text.specs.declared.form.Form.{Form}
 use Rattle.cx_text.specs.declared.form.Form.TheVariants as forms
@@ -18,10 +20,10 @@ use Rattle.cx_script.specs.Numbered.{numbered, IsScript, threads_made, objects_m
 use Rattle.cx_script.proofs.Sound.{AreFine}
 use Rattle.cx_script.proofs.Objects.{declarations_none, declarations_some}
 use Rattle.cx_script.proofs.Whole.{from_lines}
-use Rattle.cx_asks.specs.Scenes.{is_object_now, is_thread_now}
+use Rattle.cx_asks.specs.Scenes.{is_completion_now, is_object_now, is_thread_now}
 use Rattle.cx_askable.proofs.Askable.{script_is_askable}
 use Rattle.cx_work.specs.RunNow.{IsRunNow}
-use Rattle.cx_commands.specs.Built.{may_run, is_built, is_built_object, is_none, is_built_by}
+use Rattle.cx_commands.specs.Built.{notifies_none, may_run, is_built, is_built_object, is_none, is_built_by}
 
 -- ---- the test of objects and callbacks is that of declarations
 
@@ -35,6 +37,7 @@ and_and false b c = refl
 
 one_built : (t : ℕ) (w : Declared) (xs : List Object) (ks : List Callback) → (may_run w && (list_all is_built_object xs && is_none ks)) ≡ (list_all is_built_object (objects_made t w ++ xs) && is_none (callbacks_made w ++ ks))
 one_built t (declared.Mutex numbers) xs ks = and_and (numbers == 0) (list_all is_built_object xs) (is_none ks)
+one_built t (declared.Barrier count small) xs ks = and_and (notifies_none small) (list_all is_built_object xs) (is_none ks)
 one_built t (declared.Callback stop action) xs ks = never_both (list_all is_built_object xs)
 one_built t _ xs ks = refl
 
@@ -53,9 +56,15 @@ built_by_numbers s = all_built 1 s.declarations
 
 -- ---- the counts of a text without a fault are in their ranges
 
+-- so much may a completion release
+abbrev is_released : Option Small → Bool
+is_released (Some (smalls.Release q n)) = nat_le n 65535
+is_released _ = true
+
 abbrev is_ranged : Declared → Bool
 is_ranged (declared.Semaphore count max) = nat_le count max && nat_le 1 max && nat_le max 65535
 is_ranged (declared.Latch count) = nat_le count 65535
+is_ranged (declared.Barrier count small) = nat_le 1 count && nat_le count 4096 && is_released small
 is_ranged _ = true
 
 abbrev all_ranged : List Declaration → Bool
@@ -77,11 +86,31 @@ within_one true true h = refl
 within_one true false h = absurd cc
 within_one false b h = absurd cc
 
+within_count : (a b : Bool) → (not (a && b) || false) ≡ false → (a && b && true) ≡ true
+within_count true true h = refl
+within_count true false h = absurd cc
+within_count false b h = absurd cc
+
+within_both : (a b c d : Bool) → (not (a && b) || (not (c && d) || false)) ≡ false → (a && b && d) ≡ true
+within_both true true true true h = refl
+within_both true true true false h = absurd cc
+within_both true true false d h = absurd cc
+within_both true false c d h = absurd cc
+within_both false b c d h = absurd cc
+
 ranged_at : (names : Names) (e : List Filled) (f : Form) (vs : List Value) → IsWellFilled scenario_lines 1 (line f vs) → has_outside e (line f vs) ≡ false → is_ranged_where (declared_of names (line f vs) f) ≡ true
 ranged_at names e forms.Semaphore (AWord w ∷ ANumber (pos c) ∷ ANumber (pos m) ∷ []) fit inside = within_two (nat_le c m) (nat_le 1 m) (nat_le m 65535) inside
 ranged_at names e forms.Semaphore _ fit inside = absurd (assumption fit)
 ranged_at names e forms.Latch (AWord w ∷ ANumber (pos c) ∷ []) fit inside = within_one (nat_le 0 c) (nat_le c 65535) inside
 ranged_at names e forms.Latch _ fit inside = absurd (assumption fit)
+ranged_at names e forms.Barrier (AWord w ∷ ANumber (pos c) ∷ []) fit inside = within_count (nat_le 1 c) (nat_le c 4096) inside
+ranged_at names e forms.Barrier _ fit inside = absurd (assumption fit)
+ranged_at names e forms.BarrierRelease (AWord w ∷ ANumber (pos c) ∷ AWord v ∷ AWord q ∷ ANumber (pos n) ∷ []) fit inside = within_both (nat_le 1 c) (nat_le c 4096) (nat_le 0 n) (nat_le n 65535) inside
+ranged_at names e forms.BarrierRelease _ fit inside = absurd (assumption fit)
+ranged_at names e forms.BarrierNotifyOne (AWord w ∷ ANumber (pos c) ∷ AWord v ∷ AWord q ∷ []) fit inside = within_count (nat_le 1 c) (nat_le c 4096) inside
+ranged_at names e forms.BarrierNotifyOne _ fit inside = absurd (assumption fit)
+ranged_at names e forms.BarrierNotifyAll (AWord w ∷ ANumber (pos c) ∷ AWord v ∷ AWord q ∷ []) fit inside = within_count (nat_le 1 c) (nat_le c 4096) inside
+ranged_at names e forms.BarrierNotifyAll _ fit inside = absurd (assumption fit)
 ranged_at names e _ vs fit inside = refl
 
 ranged_more : (names : Names) (l : Filled) (ls : List Filled) (o : Option Declared) → declared_of names l l.form ≡ o → is_ranged_where o ≡ true → all_ranged (declarations_of names ls) ≡ true → all_ranged (declarations_of names (l ∷ ls)) ≡ true
@@ -97,12 +126,21 @@ script_ranged s h = let f = from_lines h.limit h.text s h.means in subst (λ (x 
 
 -- ---- objects, threads and callbacks
 
+completed_now : (a b : Bool) (small : Option Small) → notifies_none small ≡ true → (a && b && is_released small) ≡ true → (a && b && is_completion_now small) ≡ true
+completed_now a b None h r = r
+completed_now a b (Some (smalls.Release q n)) h r = r
+completed_now a b (Some (smalls.NotifyOne c)) h r = absurd cc
+completed_now a b (Some (smalls.NotifyAll c)) h r = absurd cc
+
 one_object : (t : ℕ) (w : Declared) (xs : List Object) → may_run w ≡ true → is_ranged w ≡ true → list_all is_object_now xs ≡ true → list_all is_object_now (objects_made t w ++ xs) ≡ true
 one_object t declared.Thread xs h r k = k
 one_object t (declared.Mutex numbers) xs h r k = and_from (numbers == 0) (list_all is_object_now xs) h k
 one_object t declared.Recursive xs h r k = k
 one_object t (declared.Semaphore count max) xs h r k = and_from (nat_le count max && nat_le 1 max && nat_le max 65535) (list_all is_object_now xs) r k
 one_object t (declared.Latch count) xs h r k = and_from (nat_le count 65535) (list_all is_object_now xs) r k
+one_object t declared.Shared xs h r k = k
+one_object t (declared.Barrier count small) xs h r k = and_from (nat_le 1 count && nat_le count 4096 && is_completion_now small) (list_all is_object_now xs) (completed_now (nat_le 1 count) (nat_le count 4096) small h r) k
+one_object t declared.Once xs h r k = k
 one_object t _ xs h r k = absurd cc
 
 objects_now : (t : ℕ) (ds : List Declaration) → all_may_run ds ≡ true → all_ranged ds ≡ true → list_all is_object_now (objects_from t ds) ≡ true

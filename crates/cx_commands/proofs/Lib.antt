@@ -5,3 +5,4 @@ pub mod Building
 pub mod Runs
 pub mod Made
 pub mod Refusing
+pub mod Joined

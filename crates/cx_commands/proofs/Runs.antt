@@ -1,5 +1,5 @@
 -- What a run asks for, and what is said of it by the bytes read.
-use Rattle.std.proofs.Common.{◌≡◌, ℕ, ◌≤◌, List, length, sym, subst, Bool, true, false, Option, arith}
+use Rattle.std.proofs.Common.{◌≡◌, ℕ, ◌≤◌, List, length, sym, subst, ◌∙◌, Bool, true, false, Option, arith}
 use Rattle.std.specs.Prelude.{vec_len}
 use Rattle.cx_io.specs.Edge.{IsRead, Rose, WritesTo}
 use Rattle.cx_scene.specs.declared.plan.Plan.{Plan}
@@ -9,7 +9,9 @@ use Rattle.cx_script.specs.Numbered.{numbered, IsScript}
 use Rattle.cx_script.proofs.Scenes.{script_is_scene}
 use Rattle.cx_work.specs.declared.objects.Objects.{Objects}
 use Rattle.cx_work.specs.Bodies.{scene_in}
-use Rattle.cx_work.specs.RunNow.{IsRunNow}
+use Rattle.std.specs.Global.{Vec}
+use Rattle.cx_kinds.specs.declared.access.Access.{Access}
+use Rattle.cx_work.specs.RunNow.{IsRunNow, AreShared}
 use Rattle.cx_run.specs.declared.scenario.Fronts.{Fronts}
 use Rattle.cx_run.specs.Runs.{Tally}
 use Rattle.cx_commands.specs.Top.{limit}
@@ -30,6 +32,15 @@ few_threads s p e h =
     let few = (script_is_scene s h).threads in
     let all : (1 ≤ length (scene_of p).threads) × (length (scene_of p).threads ≤ 64) = subst (λ (x : Scene). (1 ≤ length x.threads) × (length x.threads ≤ 64)) (sym e) (omega arith, few) in
     subst (λ n. (1 ≤ n) × (n ≤ 64)) (sym (as_many p)) all
+
+pub few_in : (s : Script) (p : Plan) (o : Objects) → scene_in o ≡ scene_of p → scene_of p ≡ numbered s → IsScript s → (1 ≤ length (scene_in o).threads) × (length (scene_in o).threads ≤ 64)
+few_in s p o same e h =
+    let few = (script_is_scene s h).threads in
+    subst (λ (x : Scene). (1 ≤ length x.threads) × (length x.threads ≤ 64)) (sym (same ∙ e)) (omega arith, few)
+
+-- main's accesses and the others' share each latch as the scenario's threads take from it
+pub shares_in : (p : Plan) (o : Objects) (all : List (Vec Access)) → scene_in o ≡ scene_of p → AreShared (scene_of p) all → AreShared (scene_in o) all
+shares_in p o all same h = subst (λ (x : Scene). AreShared x all) (sym same) h
 
 pub runs_objects : (p : Plan) (o : Objects) → scene_in o ≡ scene_of p → IsRunNow (scene_of p) → IsRunNow (scene_in o)
 runs_objects p o e h = subst (λ (x : Scene). IsRunNow x) (sym e) h

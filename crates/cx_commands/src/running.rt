@@ -2,9 +2,9 @@ ghost use Rattle.std.specs.Prelude.{◌≡◌, ◌≢◌, true, false, None, IfO
 ghost use Rattle.std.specs.List.{list_all};
 ghost use Rattle.cx_io.specs.Edge.{Rose};
 ghost use Rattle.cx_scene.specs.Scene.{scene_of};
-ghost use Rattle.cx_run.specs.Runs.{tally};
+ghost use Rattle.cx_run.specs.Runs.{tally, AreJoined};
 ghost use Rattle.cx_commands.specs.Top.{limit, IsFaulty, TookWhatItCould, OfRead};
-ghost use Rattle.cx_commands.specs.Built.{is_built, is_built_object, is_built_by};
+ghost use Rattle.cx_commands.specs.Built.{is_built, notifies_none, is_built_object, is_built_by};
 ghost use Rattle.cx_commands.specs.Complete.{CompletesFault};
 ghost use Rattle.cx_commands.specs.Running.{Ran, AnswersRun, is_run, RunsDone, RunsUnwritten, IsNotBuilt, is_before_starts, CompletesRun, CompletesUnbuilt};
 
@@ -15,7 +15,7 @@ use cx_names::NoMemory;
 use cx_record::print;
 use cx_run::{Fronts, run_on};
 use cx_scenario::{ReadErr, Scenario, read};
-use cx_scene::{Object, Plan};
+use cx_scene::{Object, Plan, Small};
 use cx_work::{Objects, Open, Work};
 use std::alloc::Global;
 use std::sync::{Arc, Wait};
@@ -42,9 +42,23 @@ fn is_built_object(object: &Object) -> bool
     match object {
         Object::Mutex { numbers } => *numbers == 0,
         Object::Recursive => true,
+        Object::Shared => true,
         Object::Semaphore { .. } => true,
         Object::Latch { .. } => true,
+        Object::Barrier { small, .. } => notifies_none(*small),
+        Object::Once => true,
         _ => false,
+    }
+}
+
+/// Whether a completion notifies no condition.
+fn notifies_none(small: Option<Small>) -> bool
+    ensures { result ≡ notifies_none small }
+{
+    match small {
+        Some(Small::NotifyOne(_)) => false,
+        Some(Small::NotifyAll(_)) => false,
+        _ => true,
     }
 }
 
@@ -70,6 +84,7 @@ fn is_built(scenario: &Scenario) -> bool
 }
 
 /// Runs a scenario, and gives its text with that of the record, and main's accesses. Waits.
+#[tactic(auto, using(crate::proofs::Joined::none_joined))]
 fn run_scenario<P: Spawner<Work<Open>>, T: Threads + Wait + Copy + Send + 'static>(
     rt: &T,
     alloc: Global,
@@ -77,8 +92,9 @@ fn run_scenario<P: Spawner<Work<Open>>, T: Threads + Wait + Copy + Send + 'stati
     spawner: &mut P,
 ) -> Result<(Vec<u8>, Fronts), NoMemory>
     requires built { is_built scenario.now ≡ true }
-    ensures { IfOk result (λ t. Ran scenario.now (tally (P.faults spawner.old) (P.started spawner.old) (P.carried spawner.old))
+    ensures ran { IfOk result (λ t. Ran scenario.now (tally (P.faults spawner.old) (P.started spawner.old) (P.carried spawner.old))
         (tally (P.faults spawner.new) (P.started spawner.new) (P.carried spawner.new)) t.1 t.0.items) }
+    ensures joined { AreJoined (P.started spawner.old) (P.joined spawner.old) (P.started spawner.new) (P.joined spawner.new) }
 {
     let (objects, passes) = Objects::make(alloc, scenario.plan())?;
     let gate = Arc::new(alloc, Open)?;
@@ -91,6 +107,7 @@ fn run_scenario<P: Spawner<Work<Open>>, T: Threads + Wait + Copy + Send + 'stati
 }
 
 /// Reads a text and runs its scenario. Waits.
+#[tactic(auto, using(crate::proofs::Joined::none_joined))]
 fn run_text<P: Spawner<Work<Open>>, T: Threads + Wait + Copy + Send + 'static>(
     rt: &T,
     alloc: Global,
@@ -100,6 +117,7 @@ fn run_text<P: Spawner<Work<Open>>, T: Threads + Wait + Copy + Send + 'static>(
     ensures answer { IfOk result (λ answer. AnswersRun answer (tally (P.faults spawner.old) (P.started spawner.old) (P.carried spawner.old))
         (tally (P.faults spawner.new) (P.started spawner.new) (P.carried spawner.new)) bytes.now) }
     ensures starts_none { IfOk result (λ answer. is_run answer ≡ false → spawner.new ≡ spawner.old) }
+    ensures joined { AreJoined (P.started spawner.old) (P.joined spawner.old) (P.started spawner.new) (P.joined spawner.new) }
 {
     match read(alloc, bytes) {
         Ok(scenario) => {
@@ -118,6 +136,7 @@ fn run_text<P: Spawner<Work<Open>>, T: Threads + Wait + Copy + Send + 'static>(
 }
 
 /// Runs what the source has; all of the contract but what must succeed. Waits.
+#[tactic(auto, using(crate::proofs::Joined::none_joined))]
 fn run_source<
     R: Source,
     K: Sink,
@@ -136,6 +155,7 @@ fn run_source<
     ensures no_memory { result.0 ≡ Status.NoMemory → K.taken sink.new ≡ K.taken sink.old }
     ensures no_fronts { result.0 ≢ Status.Done → result.1 ≡ None }
     ensures starts_none { is_before_starts result.0 ≡ true → spawner.new ≡ spawner.old }
+    ensures joined { AreJoined (P.started spawner.old) (P.joined spawner.old) (P.started spawner.new) (P.joined spawner.new) }
     ensures no_bad_words { result.0 ≢ Status.BadWords }
     ensures no_illegal { result.0 ≢ Status.Illegal }
     ensures no_stuck { result.0 ≢ Status.Stuck }
@@ -174,13 +194,15 @@ fn run_source<
 /// run is over. With `Done` alone main's accesses at the end of the run are given, by the numbers of the objects.
 ///
 /// - `Done`: every thread has ended, and all was written.
-/// - `NotBuilt`: the scenario declares something other than threads, mutexes without numbers, recursive mutexes,
-///   semaphores and latches. Nothing was started or written.
+/// - `NotBuilt`: the scenario declares something other than threads, mutexes without numbers, recursive and shared
+///   mutexes, semaphores, latches, once flags, and barriers whose completion notifies no condition. Nothing was started
+///   or written.
 /// - `BadScenario`: the text is no scenario. `fault LINE KIND` names its first fault.
 /// - `ReadFault`, `WriteFault`: the source or the sink failed.
 /// - `NoMemory`: memory ran out, and nothing was written.
 ///
-/// A start that the spawner refuses is no error: the record tells of it, and the run goes on without that thread.
+/// A start that the spawner refuses is no error: the record tells of it, and the run goes on without that thread. Whatever
+/// the status, as many threads were joined as were started.
 pub fn run_call<
     R: Source,
     K: Sink,
@@ -199,6 +221,7 @@ pub fn run_call<
     ensures no_memory { result.0 ≡ Status.NoMemory → K.taken sink.new ≡ K.taken sink.old }
     ensures no_fronts { result.0 ≢ Status.Done → result.1 ≡ None }
     ensures starts_none { is_before_starts result.0 ≡ true → spawner.new ≡ spawner.old }
+    ensures joined { AreJoined (P.started spawner.old) (P.joined spawner.old) (P.started spawner.new) (P.joined spawner.new) }
     ensures no_bad_words { result.0 ≢ Status.BadWords }
     ensures no_illegal { result.0 ≢ Status.Illegal }
     ensures no_stuck { result.0 ≢ Status.Stuck }

@@ -1,7 +1,7 @@
 ghost use Rattle.std.specs.Prelude.{◌≡◌, ◌≢◌, ◌↔◌, true, Some, None, map};
 ghost use Rattle.std.specs.String.{string_bytes};
 ghost use Rattle.cx_io.specs.Edge.{Rose};
-ghost use Rattle.cx_run.specs.Runs.{tally};
+ghost use Rattle.cx_run.specs.Runs.{tally, AreJoined};
 ghost use Rattle.cx_command_line.specs.Asked.{command_of, reads_nothing, IsInRange};
 ghost use Rattle.cx_command_line.specs.declared.command.Command.TheVariants as commands;
 ghost use Rattle.cx_commands.specs.Top.{usage, TookWhatItCould};
@@ -26,6 +26,7 @@ use std::thread::Threads;
 const USAGE: &[u8] = b"usage: cxthread run | replay [SEED] | check | make N | trial N\n";
 
 /// Does what a command asks for. Waits where it runs a scenario.
+#[tactic(auto, using(crate::proofs::Joined::none_joined))]
 fn do_command<
     R: Source,
     K: Sink,
@@ -52,6 +53,7 @@ fn do_command<
     ensures no_memory { result.0 ≡ Status.NoMemory → K.taken sink.new ≡ K.taken sink.old }
     ensures no_fronts { result.0 ≢ Status.Done → result.1 ≡ None }
     ensures starts_none { is_before_starts result.0 ≡ true → spawner.new ≡ spawner.old }
+    ensures joined { AreJoined (P.started spawner.old) (P.joined spawner.old) (P.started spawner.new) (P.joined spawner.new) }
     ensures others_fronts { (Some command) ≢ Some commands.Run → result.1 ≡ None }
     ensures others_start_none { (Some command) ≢ Some commands.Run → spawner.new ≡ spawner.old }
     ensures reads_none { reads_nothing (Some command) ≡ true → source.new ≡ source.old }
@@ -82,8 +84,9 @@ fn do_command<
 /// - `make` and a number of 1 to 20 decimal digits, from 1 to 4,800: the answer is that of [`make_call`], and nothing is read.
 /// - Any other words are `BadWords`, for which the usage line is written and nothing is read.
 ///
-/// Main's accesses are given with `Done` of `run` alone. For other words than `run` the spawner is left as it was.
-#[tactic(auto, using(crate::proofs::Refusing::no_memory_completes, crate::proofs::Refusing::no_memory_unbuilt, crate::proofs::Refusing::no_memory_fault))]
+/// Main's accesses are given with `Done` of `run` alone. For other words than `run` the spawner is left as it was. Whatever
+/// the status, as many threads were joined as were started.
+#[tactic(auto, using(crate::proofs::Refusing::no_memory_completes, crate::proofs::Refusing::no_memory_unbuilt, crate::proofs::Refusing::no_memory_fault, crate::proofs::Joined::none_joined))]
 pub fn cxthread<
     R: Source,
     K: Sink,
@@ -112,6 +115,7 @@ pub fn cxthread<
     ensures no_memory { result.0 ≡ Status.NoMemory → K.taken sink.new ≡ K.taken sink.old }
     ensures no_fronts { result.0 ≢ Status.Done → result.1 ≡ None }
     ensures starts_none { is_before_starts result.0 ≡ true → spawner.new ≡ spawner.old }
+    ensures joined { AreJoined (P.started spawner.old) (P.joined spawner.old) (P.started spawner.new) (P.joined spawner.new) }
     ensures others_fronts { (command_of (map string_bytes words.now)) ≢ Some commands.Run → result.1 ≡ None }
     ensures others_start_none { (command_of (map string_bytes words.now)) ≢ Some commands.Run → spawner.new ≡ spawner.old }
     ensures reads_none { reads_nothing (command_of (map string_bytes words.now)) ≡ true → source.new ≡ source.old }

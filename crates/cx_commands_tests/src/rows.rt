@@ -624,15 +624,44 @@ pub const ENDED_BY_ANY: &[(Row, usize)] = &[
     (OWNED, 3),
 ];
 
+/// Two threads read together while a phase of their barrier ends, which releases a semaphore; then each may write.
+pub const READERS_MEET: &[u8] = b"cxthread 1\n\
+  thread a\n\
+  thread b\n\
+  semaphore s 0 4\n\
+  shared m\n\
+  barrier p 2 release s 1\n\
+  once o\n\
+  body a\n\
+  lock_shared m\n\
+  arrive_and_wait p\n\
+  unlock_shared m\n\
+  lock m\n\
+  unlock m\n\
+  try_lock_shared m\n\
+  call_once o return\n\
+  end\n\
+  body b\n\
+  lock_shared m\n\
+  arrive_and_wait p\n\
+  unlock_shared m\n\
+  try_lock m\n\
+  acquire s\n\
+  call_once o throw 1\n\
+  end\n\
+  main\n\
+  start a\n\
+  start b\n\
+  join a\n\
+  join b\n\
+  end\n";
+
 /// Declarations that runs aren't built for.
 pub const UNBUILT: &[&[u8]] = &[
     b"mutex m 1\n",
     b"mutex m 8\n",
-    b"shared x\n",
-    b"barrier b 1\n",
-    b"barrier b 1 release s 1\n",
-    b"once o\n",
     b"condition c\n",
+    b"condition c\nbarrier b 1 notify_one c\n",
     b"stop st\n",
     b"stop st main t\n",
     b"jthread j\n",

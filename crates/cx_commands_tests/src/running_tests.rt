@@ -1,5 +1,6 @@
 use crate::rows::{
-    ENDED_BY_ANY, FAULTY, ONE_SEMAPHORE, REFUSED, TWO_THREADS, TWO_THREADS_MAIN, UNBUILT,
+    BARRIER, ENDED_BY_ANY, FAULTY, ONCE, ONE_SEMAPHORE, READERS_MEET, REFUSED, TWO_THREADS,
+    TWO_THREADS_MAIN, UNBUILT,
 };
 use crate::tests::{all_levels, answers, joined};
 use cx_commands::{Status, check_call, run_call};
@@ -70,23 +71,58 @@ fn run_is_a_word(rt: HostRuntime) -> Result<(), Fail> {
     Ok(())
 }
 
+/// Whether each of so many runs of the scenario ends, with this front of its record, and is found legal.
+fn are_legal<T: Threads + Wait + Copy + Send + 'static>(
+    rt: &T,
+    alloc: Global,
+    scenario: &[u8],
+    front: &[u8],
+    runs: u32,
+) -> Result<bool, NoMemory> {
+    let front = joined(alloc, &[scenario, front])?;
+    for _ in 0..runs {
+        let mut source = SureBytes::new(scenario.to_vec(alloc)?, 100);
+        let mut sink = SureBuffer::new(Vec::new(alloc), 100);
+        let mut spawner = Real::new(alloc);
+        let (status, _fronts) = run_call(rt, alloc, &mut source, &mut sink, &mut spawner);
+        if status != Status::Done || !sink.bytes().starts_with(&front) {
+            return Ok(false);
+        }
+        let mut source = SureBytes::new(sink.bytes().to_vec(alloc)?, 100);
+        let mut sink = SureBuffer::new(Vec::new(alloc), 100);
+        let status = check_call(alloc, &mut source, &mut sink);
+        if status != Status::Done || sink.bytes() != b"legal\n".as_slice() {
+            return Ok(false);
+        }
+    }
+    Ok(true)
+}
+
 #[test]
 fn a_run_of_two_threads_is_legal(rt: HostRuntime) -> Result<(), Fail> {
     let alloc = rt.alloc();
-    let row = TWO_THREADS;
-    let front = joined(alloc, &[row.scenario, TWO_THREADS_MAIN])?;
-    for _ in 0..20 {
-        let mut source = SureBytes::new(row.scenario.to_vec(alloc)?, 100);
-        let mut sink = SureBuffer::new(Vec::new(alloc), 100);
-        let mut spawner = Real::new(alloc);
-        let (status, _fronts) = run_call(&rt, alloc, &mut source, &mut sink, &mut spawner);
-        assert_eq!(rt; status, Status::Done);
-        assert!(rt; sink.bytes().starts_with(&front));
-        let mut source = SureBytes::new(sink.bytes().to_vec(alloc)?, 100);
-        let mut sink = SureBuffer::new(Vec::new(alloc), 100);
-        assert_eq!(rt; check_call(alloc, &mut source, &mut sink), Status::Done);
-        assert_eq!(rt; sink.bytes(), b"legal\n".as_slice());
-    }
+    assert!(rt; are_legal(&rt, alloc, TWO_THREADS.scenario, TWO_THREADS_MAIN, 20)?);
+    Ok(())
+}
+
+#[test]
+fn runs_with_a_once_flag_are_legal(rt: HostRuntime) -> Result<(), Fail> {
+    let alloc = rt.alloc();
+    assert!(rt; are_legal(&rt, alloc, ONCE.scenario, b"record 1\n", 100)?);
+    Ok(())
+}
+
+#[test]
+fn runs_with_a_barrier_are_legal(rt: HostRuntime) -> Result<(), Fail> {
+    let alloc = rt.alloc();
+    assert!(rt; are_legal(&rt, alloc, BARRIER.scenario, b"record 1\n", 100)?);
+    Ok(())
+}
+
+#[test]
+fn runs_of_readers_that_meet_are_legal(rt: HostRuntime) -> Result<(), Fail> {
+    let alloc = rt.alloc();
+    assert!(rt; are_legal(&rt, alloc, READERS_MEET, b"record 1\n", 20)?);
     Ok(())
 }
 
