@@ -9,7 +9,7 @@ use Rattle.cx_machine.specs.declared.kind.Entry.{Entry}
 use Rattle.cx_machine.specs.declared.kind.Look.{Look}
 use Rattle.cx_machine.specs.declared.kind.Op.{Op}
 use Rattle.cx_machine.specs.declared.kind.Op.TheVariants as ops
-use Rattle.cx_machine.specs.Machine.{step, shows}
+use Rattle.cx_machine.specs.Machine.{State, Mutex, Shared, Semaphore, Latch, Barrier, Once, Condition, Stop, Future, step, shows}
 use Rattle.cx_machine.specs.Now.{reply_now, first_registered}
 use Rattle.cx_scene.specs.Scene.{Scene}
 use Rattle.cx_items.specs.declared.item.Control.{Control}
@@ -21,14 +21,14 @@ use Rattle.cx_items.specs.declared.form.Form.{Form}
 use Rattle.cx_items.specs.declared.form.Form.TheVariants.{Change, Look as ALook, Begin, Does, Says}
 use Rattle.cx_items.specs.Form.{is_registered_on}
 use Rattle.cx_replay.specs.declared.knowing.Known.{Known}
-use Rattle.cx_replay.specs.declared.knowing.Known.TheVariants.{Nothing, While, Awaits, Over}
+use Rattle.cx_replay.specs.declared.knowing.Known.TheVariants.{Nothing, While, Awaits, Acquires, Over}
 use Rattle.cx_replay.specs.declared.runner.RunnerNow.{RunnerNow}
 use Rattle.cx_replay.specs.Schedule.{Thing, Runner, World, Made, thing_at, changed_to, made_change, seen_as, made_look, reply_of, given_reply, change_by, look_by, replied_change, replied_look, made_begin, can_do, made, or_made, first_made, forms_at, after_made, beginner, begun_at, with_beginner, stepped_to, after_step, stepped, step_of}
 use Rattle.cx_replay.specs.declared.objects.ObjectNow.{ObjectNow}
 use Rattle.cx_replay.specs.Views.{thing_of, runner_of, world_of, forms_there, Steps}
 use Rattle.cx_replay.proofs.Trying.{something_there}
 use Rattle.cx_replay.proofs.Advancing.{at_number, at_or, length-runners, stands}
-use Rattle.cx_replay.specs.Knowing.{is_on, Holds, IsKnown, Knows, Notes, Noted}
+use Rattle.cx_replay.specs.Knowing.{is_on, acquire, is_free, Holds, IsKnown, Knows, Notes, Noted}
 use Rattle.cx_replay.proofs.Enabling.{is_some_map, when_some, stepped_some}
 use Rattle.cx_replay.proofs.Kept.{slice_get-set_same, slice_get-set_other, Moves, changed, looked, controlled, replied, first_made_moves}
 use Rattle.cx_replay.proofs.Followed.{apart}
@@ -131,6 +131,7 @@ left_by things things' x o y (changed q en th next at_ enabled) e = go (q.0 == o
 holds_on : (s : Scene) (w v : World) (x : Item) (t : ℕ) (fs : List Form) (k : Known) → Moves w.things x v.things → Holds s w t fs k → Holds s v t fs k
 holds_on s w v x t fs Nothing moves h = h
 holds_on s w v x t fs (Awaits u) moves h = h
+holds_on s w v x t fs (Acquires o) moves h = h
 holds_on s w v x t fs Over moves h = h
 holds_on s w v x t fs (While o n can) moves h = (h.0, λ y e. go y e (left_by w.things v.things x o.0 y moves e))
   where
@@ -293,6 +294,29 @@ pub answers_awaits : (s : Scene) (w : World) (t : ℕ) (u : ThreadNo) (can : Boo
 answers_awaits s w t u can e fs h =
     e ∙ (when_some (can_do w (controls.Join u)) (record { item = items.Control (controls.Join u); things = w.things }) ∙ (or_none (made s w t (Does (controls.Join u))) ∙ ap (λ gs. is_some (first_made s w t gs)) (sym h)))
 
+abbrev acquired_by : ℕ → Entry
+acquired_by t = change_by t ops.Acquire (pos 0) (pos 0) replies.Ok
+
+-- a semaphore can be acquired by each thread or by none, and nothing else can be
+acquires_alike : (x : State) (t u : ℕ) → is_some (step x (acquired_by t)) ≡ is_some (step x (acquired_by u))
+acquires_alike (Semaphore s) t u = refl
+acquires_alike (Mutex m) t u = refl
+acquires_alike (Shared m) t u = refl
+acquires_alike (Latch l) t u = refl
+acquires_alike (Barrier b) t u = refl
+acquires_alike (Once o) t u = refl
+acquires_alike (Condition c) t u = refl
+acquires_alike (Stop s) t u = refl
+acquires_alike (Future f) t u = refl
+
+pub free_is : (w : World) (o : ObjectNo) (t : ℕ) (x : Option Thing) → is_some (made_change w o (acquired_by t) x) ≡ is_free x
+free_is w o t None = refl
+free_is w o t (Some x) = sym (is_some_map (changed_to w o (acquired_by t) x) (step x.state (acquired_by t))) ∙ acquires_alike x.state t 0
+
+pub answers_acquires : (s : Scene) (w : World) (t : ℕ) (o : ObjectNo) (can : Bool) → can ≡ is_free (slice_get w.things o.0) → (fs : List Form) → Holds s w t fs (Acquires o) → can ≡ is_some (first_made s w t fs)
+answers_acquires s w t o can e fs h =
+    e ∙ (sym (free_is w o t (thing_at w o)) ∙ (or_none (made s w t (acquire o)) ∙ ap (λ gs. is_some (first_made s w t gs)) (sym h)))
+
 pub answers_over : (s : Scene) (w : World) (t : ℕ) (fs : List Form) → Holds s w t fs Over → false ≡ is_some (first_made s w t fs)
 answers_over s w t fs h = ap (λ gs. is_some (first_made s w t gs)) (sym h)
 
@@ -326,6 +350,7 @@ one_there p q = cc
 noted_holds : (s : Scene) (w : World) (t : ℕ) (fs : List Form) (can : Bool) (k : Known) → Notes w.things fs can k → can ≡ is_some (first_made s w t fs) → Holds s w t fs k
 noted_holds s w t fs can Nothing n h = tt
 noted_holds s w t fs can (Awaits u) n h = n
+noted_holds s w t fs can (Acquires o) n h = n
 noted_holds s w t fs can Over n h = n
 noted_holds s w t fs can (While o c is) n h = (n.0, λ x at_. (let same = n.1.1 x at_ in omega (arith, same), λ now. sym h ∙ sym n.1.0))
 

@@ -1,16 +1,17 @@
-ghost use Rattle.std.specs.Prelude.{◌≡◌, ℕ, true, false, map, is_some, IfSome};
+ghost use Rattle.std.specs.Prelude.{◌≡◌, ℕ, true, false, [], ◌∷◌, map, slice_get, is_some, IfSome};
 ghost use Rattle.std.specs.List.{list_all};
 ghost use Rattle.cx_scene.specs.Scene.{scene_of};
 ghost use Rattle.cx_replay.specs.declared.knowing.Known.TheVariants.{Nothing};
 ghost use Rattle.cx_replay.specs.Schedule.{first_made};
 ghost use Rattle.cx_replay.specs.Views.{thing_of, world_of};
-ghost use Rattle.cx_replay.specs.Knowing.{is_on, Holds, Notes, Noted};
+ghost use Rattle.cx_replay.specs.Knowing.{is_on, acquire, is_free, IsLatest, Holds, Notes, Noted};
 
 use crate::making::can_do;
-use crate::objects::ObjectNow;
+use crate::objects::{ObjectNow, can_change};
 use crate::runner::RunnerNow;
-use cx_items::{Control, Form};
-use cx_names::{ObjectNo, ThreadNo};
+use cx_items::{Control, Form, Wanted};
+use cx_machine::{Entry, Op};
+use cx_names::{ObjectNo, Reply, ThreadNo};
 use cx_scene::Plan;
 
 /// What is known of whether a thread is enabled, since it was last tried. It is lost when the thread makes a
@@ -23,6 +24,8 @@ pub enum Known {
     While(ObjectNo, u32, bool),
     /// That it is once this thread has ended.
     Awaits(ThreadNo),
+    /// That it is where this semaphore can be acquired, as each thread that waits for it.
+    Acquires(ObjectNo),
     /// That it never is again.
     Over,
 }
@@ -50,9 +53,54 @@ impl Known {
                 None => None,
             },
             Known::Awaits(u) => Some(can_do(plan, runners, Control::Join(u))),
+            Known::Acquires(o) => Some(is_free(objects, o)),
             Known::Over => Some(false),
         }
     }
+}
+
+/// A semaphore, and whether it can be acquired now.
+#[derive(Clone, Copy)]
+pub struct Latest {
+    pub semaphore: ObjectNo,
+    pub is_free: bool,
+}
+
+/// Whether the semaphore can be acquired now. `latest` is what was found of the one that was tried last.
+pub fn is_free_by(objects: &[ObjectNow], o: ObjectNo, latest: &mut Option<Latest>) -> bool
+    requires { IsLatest (map thing_of objects.now) latest.old }
+    ensures free { result ≡ is_free (slice_get (map thing_of objects.now) o.0) }
+    ensures latest { IsLatest (map thing_of objects.now) latest.new }
+{
+    match *latest {
+        Some(last) => {
+            if last.semaphore.0 == o.0 {
+                return last.is_free;
+            }
+        }
+        None => {}
+    }
+    let is_free = is_free(objects, o);
+    *latest = Some(Latest {
+        semaphore: o,
+        is_free,
+    });
+    is_free
+}
+
+/// Whether the semaphore can be acquired now, by whichever thread.
+#[tactic(auto, using(crate::proofs::StillKnown::free_is))]
+fn is_free(objects: &[ObjectNow], o: ObjectNo) -> bool
+    ensures { result ≡ is_free (slice_get (map thing_of objects.now) o.0) }
+{
+    let acquired = Entry {
+        by: ThreadNo(0),
+        op: Op::Acquire,
+        a: 0,
+        b: 0,
+        reply: Reply::Ok,
+    };
+    can_change(objects, o, &acquired)
 }
 
 /// Whether the form is of an act on object `o`.
@@ -88,10 +136,24 @@ fn note_at(objects: &[ObjectNow], o: ObjectNo, forms: &[Form], can: bool) -> Kno
     }
 }
 
+/// The semaphore that the only form acquires, where it does.
+fn acquired(forms: &[Form]) -> Option<ObjectNo>
+    ensures { IfSome result (λ o. forms.now ≡ acquire o ∷ []) }
+{
+    match forms {
+        [Form::Change(o, Op::Acquire, 0, 0, Wanted::Just(Reply::Ok))] => Some(*o),
+        _ => None,
+    }
+}
+
 /// What is known of a thread that may make items of these forms, and can make one or not.
 fn note_forms(objects: &[ObjectNow], forms: &[Form], can: bool) -> Known
     ensures { Notes (map thing_of objects.now) forms.now can result }
 {
+    match acquired(forms) {
+        Some(o) => return Known::Acquires(o),
+        None => {}
+    }
     match forms {
         [] => Known::Over,
         [Form::Does(Control::Join(u))] => Known::Awaits(*u),

@@ -3,11 +3,11 @@ ghost use Rattle.cx_scene.specs.Scene.{scene_of};
 ghost use Rattle.cx_replay.specs.Schedule.{steps, step_of, turn};
 ghost use Rattle.cx_replay.specs.SplitMix.{next_seed, word};
 ghost use Rattle.cx_replay.specs.declared.knowing.Known.TheVariants.{Nothing};
-ghost use Rattle.cx_replay.specs.Knowing.{IsKnown, Knows};
+ghost use Rattle.cx_replay.specs.Knowing.{IsLatest, IsKnown, Knows};
 ghost use Rattle.cx_replay.specs.Views.{thing_of, world_of, Steps, AreEnabled, Draws, HasRoom};
 
 use crate::draws::draw;
-use crate::knowing::{Known, note, note_tried};
+use crate::knowing::{Known, Latest, is_free_by, note, note_tried};
 use crate::moves::{is_enabled, step};
 use crate::objects::ObjectNow;
 use crate::runner::RunnerNow;
@@ -77,20 +77,28 @@ pub fn turn(
     Ok(false)
 }
 
-/// Whether thread `t` is enabled. `known` is what is known of the thread.
+/// Whether thread `t` is enabled. `known` is what is known of the thread, and `latest` what was found of the
+/// semaphore that was tried last.
 fn find_out(
     plan: &Plan,
     objects: &[ObjectNow],
     runners: &[Option<RunnerNow>],
     forms: &mut Vec<Form>,
     known: &mut Known,
+    latest: &mut Option<Latest>,
     t: ThreadNo,
 ) -> Result<bool, NoMemory>
     requires number { t.0 < length runners.now }
+    requires latest { IsLatest (map thing_of objects.now) latest.old }
     requires known { (r : _) → slice_get (world_of (scene_of plan.now) objects.now runners.now).runners t.0 ≡ Some r → IsKnown (scene_of plan.now) (world_of (scene_of plan.now) objects.now runners.now) t.0 r known.old }
+    ensures latest { IsLatest (map thing_of objects.now) latest.new }
     ensures enabled { IfOk result (λ enabled. enabled ≡ is_some (step_of (scene_of plan.now) (world_of (scene_of plan.now) objects.now runners.now) t.0)) }
     ensures known { IfOk result (λ _. (r : _) → slice_get (world_of (scene_of plan.now) objects.now runners.now).runners t.0 ≡ Some r → IsKnown (scene_of plan.now) (world_of (scene_of plan.now) objects.now runners.now) t.0 r known.new) }
 {
+    match *known {
+        Known::Acquires(o) => return Ok(is_free_by(objects, o, latest)),
+        _ => {}
+    }
     match known.answer(plan, objects, runners) {
         Some(enabled) => return Ok(enabled),
         None => {}
@@ -108,15 +116,18 @@ fn push_enabled(
     runners: &[Option<RunnerNow>],
     forms: &mut Vec<Form>,
     known: &mut Known,
+    latest: &mut Option<Latest>,
     t: ThreadNo,
     enabled: &mut Vec<ThreadNo>,
 ) -> Result<(), NoMemory>
     requires number { t.0 < length runners.now }
+    requires latest { IsLatest (map thing_of objects.now) latest.old }
     requires known { (r : _) → slice_get (world_of (scene_of plan.now) objects.now runners.now).runners t.0 ≡ Some r → IsKnown (scene_of plan.now) (world_of (scene_of plan.now) objects.now runners.now) t.0 r known.old }
+    ensures latest { IsLatest (map thing_of objects.now) latest.new }
     ensures pushed { IfOk result (λ _. enabled.new.items ≡ enabled.old.items ++ (if is_some (step_of (scene_of plan.now) (world_of (scene_of plan.now) objects.now runners.now) t.0) then t ∷ [] else [])) }
     ensures known { IfOk result (λ _. (r : _) → slice_get (world_of (scene_of plan.now) objects.now runners.now).runners t.0 ≡ Some r → IsKnown (scene_of plan.now) (world_of (scene_of plan.now) objects.now runners.now) t.0 r known.new) }
 {
-    let is = find_out(plan, objects, runners, forms, known, t)?;
+    let is = find_out(plan, objects, runners, forms, known, latest, t)?;
     if is {
         enabled.push(t)?;
     }
@@ -138,9 +149,19 @@ fn put_enabled(
 {
     enabled.clear();
     let count = runners.len();
+    let mut latest = None;
     for i in 0..count {
         let t = thread(i)?;
-        push_enabled(plan, objects, runners, forms, &mut known[i], t, enabled)?;
+        push_enabled(
+            plan,
+            objects,
+            runners,
+            forms,
+            &mut known[i],
+            &mut latest,
+            t,
+            enabled,
+        )?;
     }
     Ok(())
 }
