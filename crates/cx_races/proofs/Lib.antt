@@ -1,0 +1,4 @@
+pub mod Lanes
+pub mod Reaching
+pub mod Pairs
+pub mod Lines
