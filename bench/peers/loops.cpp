@@ -9,6 +9,7 @@
 #include <latch>
 #include <mutex>
 #include <semaphore>
+#include <shared_mutex>
 #include <thread>
 #include <vector>
 
@@ -45,6 +46,12 @@ static Nanoseconds mutex_contended(long n, unsigned threads) {
     });
 }
 
+static Nanoseconds shared_mutex_read(long n, unsigned threads) {
+    std::shared_mutex m;
+    auto read = [&](unsigned) { for (long i = 0; i < n / threads; ++i) { m.lock_shared(); m.unlock_shared(); } };
+    return threads == 1 ? timed([&] { read(0); }) : together(threads, read);
+}
+
 static Nanoseconds semaphore_alone(long n) {
     std::counting_semaphore<65535> s(0);
     return timed([&] { for (long i = 0; i < n; ++i) { s.release(); s.acquire(); } });
@@ -70,6 +77,22 @@ static Nanoseconds latch_count_down(long n) {
     });
 }
 
+static Nanoseconds barrier_phase(long n, unsigned threads) {
+    std::barrier<> b(threads);
+    return together(threads, [&](unsigned) { for (long i = 0; i < n; ++i) b.arrive_and_wait(); });
+}
+
+static Nanoseconds call_once_passive(long n) {
+    std::once_flag o;
+    std::call_once(o, [] {});
+    return timed([&] {
+        for (long i = 0; i < n; ++i) {
+            std::call_once(o, [] {});
+            asm volatile("" : : : "memory");
+        }
+    });
+}
+
 int main(int count, char **words) {
     if (count != 4) return 2;
     const char *name = words[1];
@@ -80,9 +103,12 @@ int main(int count, char **words) {
     auto is = [&](const char *word) { return std::strcmp(name, word) == 0; };
     Nanoseconds taken = is("mutex_lock_unlock")           ? mutex_alone(n)
                         : is("mutex_contended")           ? mutex_contended(n, threads)
+                        : is("shared_mutex_read")         ? shared_mutex_read(n, threads)
                         : is("semaphore_release_acquire") ? semaphore_alone(n)
                         : is("semaphore_pingpong")        ? semaphore_pingpong(n)
                         : is("latch_count_down")          ? latch_count_down(n)
+                        : is("barrier_phase")             ? barrier_phase(n, threads)
+                        : is("call_once_passive")         ? call_once_passive(n)
                                                           : 0;
     std::printf("%s %u %ld %llu\n", name, threads, n, taken);
     std::fflush(stdout);

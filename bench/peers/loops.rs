@@ -1,36 +1,79 @@
 // The loops of bench/loops.py over Rust's std::sync, which has neither semaphores nor latches.
 //   loops NAME N THREADS   runs that loop N times in all, and prints: NAME THREADS N NANOSECONDS
-use std::sync::{Barrier, Mutex};
+use std::hint::black_box;
+use std::sync::{Barrier, Mutex, Once, RwLock};
 use std::thread;
 use std::time::{Duration, Instant};
 
-fn alone(n: u64) -> u128 {
-    let m = Mutex::new(0u64);
+fn timed<F: FnOnce()>(work: F) -> u128 {
     let begin = Instant::now();
-    for _ in 0..n {
-        *m.lock().unwrap() += 1;
-    }
+    work();
     begin.elapsed().as_nanos()
 }
 
 // From the common start of the threads to the last end.
-fn contended(n: u64, threads: u64) -> u128 {
-    let m = Mutex::new(0u64);
+fn together<F: Fn() + Sync>(threads: u64, work: F) -> u128 {
     let gate = Barrier::new(threads as usize + 1);
     let mut begin = Instant::now();
     thread::scope(|s| {
         for _ in 0..threads {
             s.spawn(|| {
                 gate.wait();
-                for _ in 0..n / threads {
-                    *m.lock().unwrap() += 1;
-                }
+                work();
             });
         }
         begin = Instant::now();
         gate.wait();
     });
     begin.elapsed().as_nanos()
+}
+
+fn alone(n: u64) -> u128 {
+    let m = Mutex::new(0u64);
+    timed(|| {
+        for _ in 0..n {
+            *m.lock().unwrap() += 1;
+        }
+    })
+}
+
+fn contended(n: u64, threads: u64) -> u128 {
+    let m = Mutex::new(0u64);
+    together(threads, || {
+        for _ in 0..n / threads {
+            *m.lock().unwrap() += 1;
+        }
+    })
+}
+
+fn shared_mutex_read(n: u64, threads: u64) -> u128 {
+    let m = RwLock::new(0u64);
+    let read = || {
+        for _ in 0..n / threads {
+            black_box(*m.read().unwrap());
+        }
+    };
+    if threads == 1 { timed(read) } else { together(threads, read) }
+}
+
+fn barrier_phase(n: u64, threads: u64) -> u128 {
+    let b = Barrier::new(threads as usize);
+    together(threads, || {
+        for _ in 0..n {
+            b.wait();
+        }
+    })
+}
+
+fn call_once_passive(n: u64) -> u128 {
+    let o = Once::new();
+    o.call_once(|| {});
+    timed(|| {
+        for i in 0..n {
+            o.call_once(|| {});
+            black_box(i);
+        }
+    })
 }
 
 fn main() {
@@ -40,6 +83,9 @@ fn main() {
     let taken = match words[1].as_str() {
         "mutex_lock_unlock" => alone(n),
         "mutex_contended" => contended(n, threads),
+        "shared_mutex_read" => shared_mutex_read(n, threads),
+        "barrier_phase" => barrier_phase(n, threads),
+        "call_once_passive" => call_once_passive(n),
         _ => 0,
     };
     println!("{} {threads} {n} {taken}", words[1]);
