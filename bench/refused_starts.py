@@ -56,7 +56,7 @@ def main():
             if done.returncode != 0 or verdict.stdout != b'legal\n':
                 wrong += 1
                 print(f'limit {limit}: run {done.returncode}, check {verdict.returncode} {verdict.stdout!r}', file=sys.stderr)
-            refused.append(done.stdout.count(b' no-thread'))
+            refused.append(sum(line.startswith(b'* start ') and line.endswith(b' no-thread') for line in done.stdout.split(b'\n')))
         any_refused = any_refused or max(refused) > 0
         print(f'limit {limit:2}: {words.runs} runs, {min(refused)} to {max(refused)} of {THREADS} starts refused')
     raise SystemExit(0 if wrong == 0 and any_refused else 1)
