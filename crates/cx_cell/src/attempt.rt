@@ -21,12 +21,8 @@ use std::sync::Wait;
 // How often a caller tries before it enters the queue and sleeps.
 const TRIES: u32 = 7;
 
-// Lets a short while pass, which doubles with each try.
-fn pause(tries: u32) {
-    for _ in 0..1u32 << tries.min(TRIES) {
-        hint::spin_loop();
-    }
-}
+// How often it looks for a change between two tries.
+const LOOKS: u32 = 256;
 
 pub(crate) fn entry(by: ThreadNo, op: Op, wish: &Wish, reply: Reply) -> Entry
     ensures { result ≡ change by op wish.now.a wish.now.b reply }
@@ -129,7 +125,20 @@ impl<M: Meaning, S: Machine<M>> Cell<M, S> {
         outcome
     }
 
-    // Sleeps until the caller is woken, if it is in the queue, and gives how often it tried since.
+    // Looks for a short while whether a change came after the caller's last try, and says whether one did.
+    // Looking takes no turn, so that whoever is to make the change isn't kept from it.
+    fn sees_change(&self, pass: &Pass<M>) -> bool {
+        for _ in 0..LOOKS {
+            if self.turn.seems_moved(pass) {
+                return true;
+            }
+            hint::spin_loop();
+        }
+        false
+    }
+
+    // Sleeps until the caller is woken, if it is in the queue, and gives how often it tried since. One who
+    // saw no change for a while has tried often enough.
     fn rest<R: Wait>(&self, rt: &R, pass: &mut Pass<M>, queued: bool, tries: u32) -> u32
         requires { IsCellPass S.meaning M.Meaning self.now pass.old }
         ensures { (v : View M) → IsCellPassWith S.meaning M.Meaning self.now pass.old v → IsCellPassWith S.meaning M.Meaning self.now pass.new v }
@@ -138,8 +147,11 @@ impl<M: Meaning, S: Machine<M>> Cell<M, S> {
             self.turn.sleep(rt, pass);
             return 0;
         }
-        pause(tries);
-        tries.saturating_add(1)
+        if self.sees_change(pass) {
+            tries.saturating_add(1)
+        } else {
+            TRIES
+        }
     }
 
     // Waits until what is wished for is done.

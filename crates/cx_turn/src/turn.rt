@@ -81,6 +81,12 @@ impl<M: Meaning, S: Machine<M>> Turn<M, S> {
         (self.board.word_count() - 1) as u32
     }
 
+    /// Whether changes seem to have been made that the pass hasn't seen. It takes no turn, and the next
+    /// moment may show another answer: a hint for callers who have nothing to do before the next change.
+    pub fn seems_moved(&self, pass: &Pass<M>) -> bool {
+        self.board.shared.peek(0) / 2 != u64::from(pass.len)
+    }
+
     /// Waits for the turn, and takes it.
     pub fn take<'a, R: Wait>(&'a self, rt: &R, pass: &'a mut Pass<M>) -> Held<'a, M, S>
         requires { IsPassOf S.meaning M.Meaning self.now pass.old }
