@@ -1,13 +1,14 @@
 #!/usr/bin/env python3
 """Times the loops of proved calls beside the C++20 libraries and Rust's std, and prints a table.
 
-  bench/loops.py [--runs N] [--only WORD]
+  bench/loops.py [--runs N] [--only WORD] [--before PATH]
 
 Ours is the program that `rt ci`, or `rt run` in crates/cx_loops, leaves. Beside it stand the same loops over libstdc++
 (g++), libc++ (clang++) and Rust's std (rustc), from bench/peers, each where its compiler is here. A figure is the least
 of N runs (5 if left out) in nanoseconds a round: a lock and unlock, exclusive or shared, a release and acquire, a
 count-down, a release there and back, a phase of a barrier, a call on a flag whose function has returned. The peers take
-turns, so that a busy moment meets all of them. Ratios are ours over the other. The last line is the processor time of a
+turns, so that a busy moment meets all of them. Ratios are ours over the other. With `--before`, an earlier build of our
+loops takes its turns too. The last line is the processor time of a
 whole process in which a caller sleeps a second on a semaphore. It stands outside the gate, and nothing is proved of the
 times.
 """
@@ -29,8 +30,15 @@ PEERS = [
 SLEEP = 'semaphore_sleep'
 
 
-def output(words):
+# With this status our program refuses a loop that it hasn't.
+NO_LOOP = 2
+
+
+def output(words, refused=0):
+    """What a program wrote, or None where it ended with the status `refused`."""
     done = subprocess.run(words, capture_output=True, check=False, text=True)
+    if refused and done.returncode == refused:
+        return None
     if done.returncode != 0:
         sys.exit(f'{words[0]} ended with status {done.returncode}')
     return done.stdout
@@ -51,7 +59,10 @@ def build(folder):
 
 def nanoseconds(program, loop, often, threads):
     """Of one round, or None where the program hasn't the loop."""
-    _, _, calls, taken = output([program, loop, often, threads]).split()
+    written = output([program, loop, often, threads], NO_LOOP)
+    if written is None:
+        return None
+    _, _, calls, taken = written.split()
     return float(taken) / float(calls) if int(taken) else None
 
 
@@ -73,12 +84,12 @@ def least(programs, loop, often, threads, runs):
 
 
 def main():
-    words = options(__doc__, 5, only='')
+    words = options(__doc__, 5, only='', before='')
     runs, only = words.runs, words.only
     if not os.path.exists(OURS):
         sys.exit('bench: crates/cx_loops/out/cx_loops is missing: run `rt ci`, or `rt run -- --list` in crates/cx_loops')
     with tempfile.TemporaryDirectory() as folder:
-        peers = build(folder)
+        peers = build(folder) + ([('before', words.before)] if words.before else [])
         names = [name for name, _ in peers]
         print(f'# ns a round, least of {runs} runs; load {os.getloadavg()[0]:.1f} on {os.cpu_count()} processors')
         print('| Loop | Threads | Ours | ' + ' | '.join(f'{n} | ratio' for n in names) + ' |')
