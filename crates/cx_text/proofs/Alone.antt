@@ -1,6 +1,5 @@
 -- For each row of the scenario's table: the words of such a line belong to it alone.
-use Rattle.std.proofs.Common.{◌≡◌, ℕ, List, [], ◌∷◌, refl}
-use Rattle.std.specs.Fmt.{digits}
+use Rattle.std.proofs.Common.{[], ◌∷◌, refl}
 use Rattle.cx_text.specs.declared.form.Form.TheVariants as forms
 use Rattle.cx_text.specs.declared.form.Literal.TheVariants as literals
 use Rattle.cx_text.specs.Table.{spelling}

@@ -1,14 +1,10 @@
 -- A line is read by the first row that takes its words.
-use Rattle.std.proofs.Common.{◌≡◌, ℕ, zero, suc, ◌+◌, ◌<◌, ◌≤◌, Bool, true, false, cond, ◌&&◌, List, [], ◌∷◌, ◌++◌, length, map, drop, get_or, filter, Option, Some, None, Bor, refl, sym, ap, ◌∙◌, arith, add-one, drop-cons}
+use Rattle.std.proofs.Common.{◌≡◌, ℕ, suc, ◌+◌, ◌<◌, ◌≤◌, Bool, true, false, cond, ◌&&◌, List, [], ◌∷◌, ◌++◌, length, drop, get_or, filter, Option, Some, None, Bor, refl, sym, ap, ◌∙◌, add-one, drop-cons}
 use Rattle.std.specs.Option.{option_map}
 use Rattle.std.proofs.lemmas.List.{drop_all, length-map}
 use Rattle.cx_text.specs.declared.form.Field.{Field}
 use Rattle.cx_text.specs.Words.{Table, Said, Value, values_of, spread, own_word, said_as, first_some, or_some, rows_for, has_head, has_literals}
-use Rattle.cx_text.specs.Views.{now_all, said_if}
-
--- those of some rows that may be meant
-unfoldable pub rows_in : {F : Type 0} → Table F → ℕ → List ℕ → List (List ℕ) → List F → List F
-rows_in table version w ws rows = filter (λ f. has_literals (spread (table.fields f) (length ws)) ws) (filter (has_head table version w) rows)
+use Rattle.cx_text.specs.Views.{now_all, said_if, rows_in}
 
 module _ (F : Type 0) (table : Table F) (head : List ℕ) (after : List (List ℕ)) where
   abbrev pub may_be : F → Bool
@@ -26,6 +22,32 @@ module _ (F : Type 0) (table : Table F) (head : List ℕ) (after : List (List �
 
   one_row : (row : F) (rows : List F) → rows_in table 1 head after (row ∷ rows) ≡ cond (may_be row) (row ∷ rows_in table 1 head after rows) (rows_in table 1 head after rows)
   one_row row rows = by_tests row rows (has_head table 1 head row) (has_literals (spread (table.fields row) (length after)) after) refl refl
+
+  -- a test that all rows pass which may be meant leaves them
+  left_by : (test : F → Bool) (row : F) (rows : List F) (a b : Bool) → test row ≡ a → may_be row ≡ b → (b ≡ true → a ≡ true)
+      → rows_in table 1 head after rows ≡ rows_in table 1 head after (filter test rows) → rows_in table 1 head after (row ∷ rows) ≡ rows_in table 1 head after (filter test (row ∷ rows))
+  left_by test row rows true b e f implies h =
+      let kept : filter test (row ∷ rows) ≡ row ∷ filter test rows = rw e refl in
+      one_row row rows ∙ ap (λ (xs : List F). cond (may_be row) (row ∷ xs) xs) h ∙ sym (one_row row (filter test rows)) ∙ ap (rows_in table 1 head after) (sym kept)
+  left_by test row rows false true e f implies h = absurd (let no : false ≡ true = implies refl in cc)
+  left_by test row rows false false e f implies h =
+      let gone : filter test (row ∷ rows) ≡ filter test rows = rw e refl in
+      one_row row rows ∙ ap (λ (t : Bool). cond t (row ∷ rows_in table 1 head after rows) (rows_in table 1 head after rows)) f ∙ h ∙ ap (rows_in table 1 head after) (sym gone)
+
+  left : (test : F → Bool) → ((row : F) → may_be row ≡ true → test row ≡ true) → (rows : List F) → rows_in table 1 head after rows ≡ rows_in table 1 head after (filter test rows)
+  unfolding rows_in
+  left test passes [] = refl
+  left test passes (row ∷ rows) = left_by test row rows (test row) (may_be row) refl refl (passes row) (left test passes rows)
+
+  -- so rows are enough that pass it in the same way as all
+  pub enough : (test : F → Bool) → ((row : F) → may_be row ≡ true → test row ≡ true) → (rows : List F) → filter test rows ≡ filter test table.forms
+      → rows_in table 1 head after rows ≡ rows_for table 1 head after
+  unfolding rows_in rows_for
+  enough test passes rows e = left test passes rows ∙ ap (rows_in table 1 head after) e ∙ sym (left test passes table.forms)
+
+  pub whole : (rows : List F) → rows ≡ table.forms → rows_in table 1 head after rows ≡ rows_for table 1 head after
+  unfolding rows_in rows_for
+  whole rows e = rw e refl
 
   at_row : (rows : List F) (i : ℕ) (d : F) → i < length rows → rows_in table 1 head after (drop i rows)
       ≡ cond (may_be (get_or rows i d)) (get_or rows i d ∷ rows_in table 1 head after (drop (i + 1) rows)) (rows_in table 1 head after (drop (i + 1) rows))
@@ -45,10 +67,9 @@ module _ (F : Type 0) (table : Table F) (head : List ℕ) (after : List (List �
       ∙ ap (λ (t : Bool). first_some (said_as table 1 after) (cond t (get_or rows i d ∷ rows_in table 1 head after (drop (i + 1) rows)) (rows_in table 1 head after (drop (i + 1) rows)))) (sym e)
       ∙ ap (first_some (said_as table 1 after)) (sym (at_row rows i d lt)) ∙ h
 
-  -- with all rows of the table before it
-  pub all_rows : (rows : List F) → rows ≡ table.forms → read_among rows ≡ first_some (said_as table 1 after) (rows_for table 1 head after)
-  unfolding rows_in rows_for
-  all_rows rows e = rw e refl
+  -- with all rows before it that may be meant
+  pub all_rows : (rows : List F) → rows_in table 1 head after rows ≡ rows_for table 1 head after → read_among rows ≡ first_some (said_as table 1 after) (rows_for table 1 head after)
+  all_rows rows e = ap (first_some (said_as table 1 after)) e
 
   pub none_left : (rows : List F) (i : ℕ) (whole : Option (Said F)) → length rows ≤ i → read_among (drop i rows) ≡ whole → None ≡ whole
   unfolding rows_in

@@ -1,21 +1,20 @@
 -- For the rows of a record's table whose words fit another row too: such a line is read as itself.
-use Rattle.std.proofs.Common.{◌≡◌, ℕ, zero, suc, ◌+◌, ◌^◌, ◌<◌, ◌≤◌, ℤ, pos, negsuc, Bool, true, false, cond, eqb, ◌&&◌, ◌||◌, not, List, [], ◌∷◌, ◌++◌, filter, map, length, Option, Some, None, refl, sym, ap, subst, ◌∙◌, arith}
+use Rattle.std.proofs.Common.{◌≡◌, ℕ, suc, ◌^◌, ◌<◌, ◌≤◌, ℤ, pos, negsuc, Bool, true, false, cond, ◌&&◌, not, List, [], ◌∷◌, ◌++◌, filter, map, length, Option, Some, None, refl, sym, ap, ◌∙◌, arith}
 use Rattle.std.specs.Prelude.{codes, nat_lt, nat_le}
 use Rattle.std.specs.Option.{option_map}
-use Rattle.std.specs.List.{list_all, list_any, AllByRecursion}
+use Rattle.std.specs.List.{list_all, AllByRecursion}
 use Rattle.std.specs.Str.{bytes_eq}
-use Rattle.std.specs.Fmt.{decimal, signed_decimal, digits}
+use Rattle.std.specs.Fmt.{decimal, signed_decimal}
 use Rattle.std.proofs.lemmas.Bool.{and_parts, and_left, or_parts, ne_eqb, false≢true}
 use Rattle.std.proofs.lemmas.Bool.Decides.{nat_tests}
 use Rattle.cx_text.specs.declared.item.ItemForm.{ItemForm}
 use Rattle.cx_text.specs.declared.item.ItemForm.TheVariants as forms
-use Rattle.cx_text.specs.declared.item.TheConstants.{ITEM_FORMS}
 use Rattle.cx_text.specs.declared.form.Literal.TheVariants as literals
 use Rattle.cx_text.specs.declared.form.Field.TheVariants as fields
 use Rattle.cx_text.specs.declared.form.Sort.TheVariants as sorts
 use Rattle.cx_text.specs.Table.{spelling}
-use Rattle.cx_text.specs.Words.{Table, Said, Value, AWord, ANumber, spell, said_as, first_some, or_some, rows_for, line_by, words_by, with_value, values_of, value_of, is_name, is_digit, is_digits, natural_of, integer_of, is_one_of, reply_words, main_word, spread, has_head, has_literals, is_lower, begins_lower, is_name_byte, is_reserved, digits_from}
-use Rattle.cx_text.specs.Items.{items, item_fields}
+use Rattle.cx_text.specs.Words.{Table, Said, Value, AWord, ANumber, spell, said_as, first_some, rows_for, line_by, words_by, with_value, values_of, value_of, is_name, is_digit, is_digits, integer_of, is_one_of, reply_words, main_word, spread, has_head, has_literals, is_lower, begins_lower, is_name_byte, is_reserved, digits_from}
+use Rattle.cx_text.specs.Items.{items}
 use Rattle.cx_text.proofs.Fields.{decimal_digits, IsShort}
 use Rattle.cx_text.proofs.Rows.{IsWellFilled, said_back}
 

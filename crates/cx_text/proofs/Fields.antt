@@ -1,22 +1,18 @@
 -- A word that a value was written as is read as that value, at a field that it fits.
-use Rattle.std.proofs.Common.{◌≡◌, ℕ, zero, suc, ◌+◌, ◌-◌, ◌*◌, ◌^◌, ◌<◌, ◌≤◌, ℤ, pos, negsuc, Bool, true, false, cond, eqb, ◌==◌, ◌&&◌, ◌||◌, not, List, [], ◌∷◌, ◌++◌, length, map, Option, Some, None, refl, sym, ap, subst, ◌∙◌, arith, inl, inr}
-use Rattle.std.specs.Prelude.{neg_ℤ, nat_le, nat_lt}
-use Rattle.std.specs.Option.{option_map}
-use Rattle.std.specs.List.{AllByRecursion, list_all}
+use Rattle.std.proofs.Common.{◌≡◌, ℕ, suc, ◌+◌, ◌-◌, ◌*◌, ◌^◌, ◌<◌, ◌≤◌, ℤ, pos, negsuc, Bool, true, false, eqb, ◌&&◌, ◌||◌, List, [], ◌∷◌, length, map, Some, refl, sym, ap, ◌∙◌, arith}
+use Rattle.std.specs.List.{list_all}
 use Rattle.std.specs.Char.{digit_value}
-use Rattle.std.specs.Fmt.{decimal, signed_decimal, IsBoundedDecimal}
+use Rattle.std.specs.Fmt.{decimal, signed_decimal}
 use Rattle.std.specs.Str.{bytes_eq}
-use Rattle.std.specs.Str.Parse.{AllDigits, IsNumeral, digits_value, digits_value_after}
-use Rattle.std.proofs.lemmas.Bool.{lt-ltb, le-leb, eqb-false}
+use Rattle.std.specs.Str.Parse.{AllDigits, digits_value_after}
+use Rattle.std.proofs.lemmas.Bool.{lt-ltb, le-leb}
 use Rattle.std.proofs.lemmas.Bool.Decides.{nat_tests}
 use Rattle.std.proofs.lemmas.Str.Parse.{digit_from_value}
 use Rattle.std.proofs.lemmas.Fmt.{decimal_is_IsNumeral_wide, length-decimal-le_wide}
 use Rattle.cx_text.specs.declared.form.Field.{Field}
 use Rattle.cx_text.specs.declared.form.Field.TheVariants as fields
-use Rattle.cx_text.specs.declared.form.Literal.{Literal}
-use Rattle.cx_text.specs.declared.form.Sort.{Sort}
 use Rattle.cx_text.specs.Table.{spelling, takes_main}
-use Rattle.cx_text.specs.Words.{Value, AWord, ANumber, spell, value_of, values_of, word_where, is_digit, is_digits, digits_from, natural_of, integer_of, is_name, is_one_of, policy_words, relation_words, main_word}
+use Rattle.cx_text.specs.Words.{Value, AWord, ANumber, spell, value_of, values_of, is_digit, is_digits, digits_from, natural_of, integer_of, is_name, is_one_of, policy_words, relation_words, main_word}
 
 digit_is : (c : ℕ) → digit_value c < 10 → (is_digit c ≡ true) × (digit_value c ≡ c - 48)
 digit_is c h = let r = digit_from_value c h in (grind (arith, nat_tests), grind (arith, nat_tests))

@@ -10,3 +10,4 @@ pub mod Digits
 pub mod Written
 pub mod Taken
 pub mod Among
+mod Telling

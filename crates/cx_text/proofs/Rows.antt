@@ -1,8 +1,6 @@
 -- A line that is written is read as itself, where its row is the only one that may be meant.
-use Rattle.std.proofs.Common.{◌≡◌, ℕ, zero, suc, Bool, true, false, List, [], ◌∷◌, ◌++◌, length, map, Option, Some, None, refl, sym, ap, subst, ◌∙◌}
-use Rattle.std.specs.Option.{option_map}
-use Rattle.cx_text.specs.declared.form.Field.{Field}
-use Rattle.cx_text.specs.Words.{Table, Said, Value, spell, spread, values_of, said_as, first_some, or_some, rows_for, line_by, words_by, own_word}
+use Rattle.std.proofs.Common.{◌≡◌, ℕ, suc, List, [], ◌∷◌, length, map, Option, Some, refl, ap, ◌∙◌}
+use Rattle.cx_text.specs.Words.{Table, Said, Value, spell, spread, values_of, said_as, first_some, rows_for, line_by, words_by, own_word}
 use Rattle.cx_text.proofs.Fields.{FitFields, values_back}
 
 -- its words belong to one row alone

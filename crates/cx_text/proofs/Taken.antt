@@ -1,13 +1,13 @@
 -- The values of a line are taken word by word, along the fields of its row.
-use Rattle.std.proofs.Common.{◌≡◌, ℕ, zero, suc, ◌+◌, ◌-◌, ◌<◌, ◌≤◌, Bool, true, false, eqb, ltb, ◌&&◌, List, [], ◌∷◌, ◌++◌, length, map, take, take_all, drop, get_or, max, min, replicate, Option, Some, None, Result, IfOk, Bor, refl, sym, ap, subst, ◌∙◌, arith, append_assoc, append-nil, add-one, drop-cons}
+use Rattle.std.proofs.Common.{◌≡◌, ℕ, zero, suc, ◌+◌, ◌-◌, ◌<◌, ◌≤◌, Bool, true, false, eqb, List, [], ◌∷◌, ◌++◌, length, take, take_all, drop, get_or, max, min, replicate, Option, Some, None, Result, IfOk, Bor, refl, sym, ap, subst, ◌∙◌, arith, append_assoc, append-nil, add-one, drop-cons}
 use Rattle.std.specs.Option.{option_map}
 use Rattle.std.proofs.lemmas.List.{drop_all, length-map}
 use Rattle.std.proofs.lemmas.Bool.{ne_eqb, eq-eqb, eqb-true, eqb-false, false≢true}
 use Rattle.cx_text.specs.declared.form.Field.{Field}
 use Rattle.cx_text.specs.declared.form.Field.TheVariants as fields
 use Rattle.cx_text.specs.declared.form.Sort.{Sort}
-use Rattle.cx_text.specs.Words.{Value, AWord, value_of, values_of, with_value, spread, has_literals}
-use Rattle.cx_text.specs.Views.{now_all, said_if, literal_fits}
+use Rattle.cx_text.specs.Words.{Value, value_of, values_of, with_value, spread, has_literals}
+use Rattle.cx_text.specs.Views.{now_all, said_if}
 
 -- ---- words at one field
 

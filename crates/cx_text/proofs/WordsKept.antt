@@ -1,5 +1,5 @@
 -- The words of a line, kept unless the first begins a comment.
-use Rattle.std.proofs.Common.{◌≡◌, ℕ, suc, Bool, true, false, eqb, List, [], ◌∷◌, filter, map, length, refl, sym, subst, ap, append_assoc, ◌∙◌, arith, ◌+◌, ◌<◌, ◌≤◌, ◌++◌, ltb, take_all, append-nil, length-drop}
+use Rattle.std.proofs.Common.{◌≡◌, ℕ, suc, Bool, true, false, List, [], ◌∷◌, filter, length, refl, sym, subst, ap, append_assoc, ◌∙◌, arith, ◌+◌, ◌<◌, ◌≤◌, ◌++◌, ltb, take_all, append-nil, length-drop}
 use Rattle.std.proofs.lemmas.Bool.{lt-ltb, ltb-true, ltb-false}
 use Rattle.std.specs.List.{slice_split, position_or_len, before_first, after_first}
 use Rattle.std.proofs.lemmas.List.{drop_all}

@@ -1,5 +1,5 @@
 -- The table of a record's lines, in the shape of the table of a scenario's.
-use Rattle.std.specs.Prelude.{◌≡◌, ℕ, Bool, true, false, List, [], ◌∷◌, Option, Some, None, codes}
+use Rattle.std.specs.Prelude.{ℕ, List, [], ◌∷◌, codes}
 use Rattle.cx_text.specs.declared.item.ItemForm.{ItemForm}
 use Rattle.cx_text.specs.declared.item.ItemForm.TheVariants as forms
 use Rattle.cx_text.specs.declared.item.TheConstants.{ITEM_FORMS}

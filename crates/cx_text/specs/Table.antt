@@ -1,5 +1,5 @@
 -- The table of line forms: a first word, and a field for each word after it.
-use Rattle.std.specs.Prelude.{◌≡◌, ℕ, Bool, true, false, List, [], ◌∷◌, Option, Some, None, codes}
+use Rattle.std.specs.Prelude.{ℕ, Bool, true, false, List, [], ◌∷◌, Option, Some, None, codes}
 use Rattle.cx_text.specs.declared.form.Form.{Form}
 use Rattle.cx_text.specs.declared.form.Form.TheVariants as forms
 use Rattle.cx_text.specs.declared.form.Field.{Field}

@@ -1,13 +1,11 @@
 -- What words are, and how a line's words fit a row of the table.
-use Rattle.std.specs.Prelude.{◌≡◌, ℕ, zero, suc, ◌+◌, ◌-◌, ◌*◌, ◌^◌, ◌≤◌, ℤ, pos, negsuc, neg_ℤ, Bool, true, false, ◌==◌, ◌&&◌, ◌||◌, not, List, [], ◌∷◌, ◌++◌, map, filter, length, replicate, min, max, Option, Some, None, is_some, nat_lt, nat_le, int_le, if◌then◌else◌, codes, find, option_map, option_and_then}
+use Rattle.std.specs.Prelude.{ℕ, ◌+◌, ◌-◌, ◌*◌, ℤ, pos, neg_ℤ, Bool, true, false, ◌==◌, ◌&&◌, ◌||◌, not, List, [], ◌∷◌, map, filter, length, replicate, min, max, Option, Some, None, nat_lt, nat_le, if◌then◌else◌, codes, option_map}
 use Rattle.std.specs.List.{list_all, list_any}
 use Rattle.std.specs.Str.{bytes_eq}
 use Rattle.std.specs.Fmt.{signed_decimal}
 use Rattle.cx_text.specs.declared.form.Form.{Form}
-use Rattle.cx_text.specs.declared.form.Form.TheVariants as forms
 use Rattle.cx_text.specs.declared.form.Field.{Field}
 use Rattle.cx_text.specs.declared.form.Field.TheVariants as fields
-use Rattle.cx_text.specs.declared.form.Sort.{Sort}
 use Rattle.cx_text.specs.declared.form.TheConstants.{FORMS}
 use Rattle.cx_text.specs.Table.{head_of, fields_of, takes_main, spelling}
 

@@ -1,6 +1,7 @@
 //! Lines, words and the tables of line forms.
 #![tactic(auto)]
 
+mod choosing;
 mod fault;
 mod form;
 mod item;

@@ -129,7 +129,7 @@ fn read_row<'a, F: Row>(
 ) -> Result<Option<F>, AllocError>
     ensures { IfOk result (λ form. option_map (λ f. record { form = f; values = map seen values.new.items }) form ≡ first_some (said_as F.table 1 (now_all after.now)) (rows_for F.table 1 head.now (now_all after.now))) }
 {
-    for row in F::rows() {
+    for row in F::rows_for(head, after) {
         if !may_be(*row, head, after) {
             continue;
         }

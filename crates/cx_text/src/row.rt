@@ -1,9 +1,11 @@
 ghost use Rattle.std.specs.Prelude.{◌≡◌};
-ghost use Rattle.cx_text.specs.Words.{Table, scenario_lines};
+ghost use Rattle.cx_text.specs.Words.{Table, scenario_lines, rows_for};
+ghost use Rattle.cx_text.specs.Views.{now_all, rows_in};
 ghost use Rattle.cx_text.specs.Items.{items};
 
-use crate::form::{FORMS, Field, Form};
-use crate::item::{ITEM_FORMS, ItemForm};
+use crate::choosing::{forms_for, item_forms_for};
+use crate::form::{Field, Form};
+use crate::item::ItemForm;
 
 /// A row of a table of line forms: a first word, and a field for each word after it.
 pub trait Row: Copy + 'static {
@@ -21,9 +23,9 @@ pub trait Row: Copy + 'static {
     fn since(self) -> u32
         ensures { result ≡ table.since self };
 
-    /// All rows of the table.
-    fn rows() -> &'static [Self]
-        ensures { result.now ≡ table.forms };
+    /// Rows of the table, among them all that lines with this first word and these after it may have.
+    fn rows_for(head: &[u8], after: &[&[u8]]) -> &'static [Self]
+        ensures { rows_in table 1 head.now (now_all after.now) result.now ≡ rows_for table 1 head.now (now_all after.now) };
 }
 
 impl Row for Form {
@@ -41,8 +43,8 @@ impl Row for Form {
         1
     }
 
-    fn rows() -> &'static [Form] {
-        &FORMS
+    fn rows_for(head: &[u8], after: &[&[u8]]) -> &'static [Form] {
+        forms_for(head, after)
     }
 }
 
@@ -64,7 +66,7 @@ impl Row for ItemForm {
         }
     }
 
-    fn rows() -> &'static [ItemForm] {
-        &ITEM_FORMS
+    fn rows_for(head: &[u8], after: &[&[u8]]) -> &'static [ItemForm] {
+        item_forms_for(head, after)
     }
 }

@@ -1,8 +1,8 @@
-use Rattle.std.proofs.Common.{◌≡◌, ◌∙◌, ◌++◌, ◌∷◌, [], sym, refl, map, arith, rules, Some, true, get_or}
+use Rattle.std.proofs.Common.{◌≡◌, ◌∙◌, ◌++◌, ◌∷◌, [], sym, refl, map, arith}
 use Rattle.std.proofs.lemmas.List.{map_push}
 use Rattle.cx_text.specs.declared.form.Field.TheVariants as fields
 use Rattle.cx_text.specs.Views.{seen}
-use Rattle.cx_text.proofs.Taken.{nothing_left, several_short, several_taken, no_word, word_stops, word_more, after_first, not_several, is_single}
+use Rattle.cx_text.proofs.Taken.{nothing_left, several_short, several_taken, no_word, word_stops, word_more, after_first, not_several}
 use Rattle.cx_text.proofs.reading.+push_values.Goals as goal
 
 pub returns-in-empty : goal.returns-in-empty

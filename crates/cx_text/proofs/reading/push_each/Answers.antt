@@ -1,4 +1,4 @@
-use Rattle.std.proofs.Common.{◌≡◌, ◌∙◌, sym, map, arith, Some}
+use Rattle.std.proofs.Common.{sym, map}
 use Rattle.std.proofs.lemmas.List.{map_push}
 use Rattle.cx_text.specs.Views.{seen}
 use Rattle.cx_text.proofs.Taken.{each_more, each_stops, each_ends}

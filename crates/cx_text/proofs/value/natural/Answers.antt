@@ -1,4 +1,4 @@
-use Rattle.std.proofs.Common.{◌≡◌, true, ◌<◌, ◌≤◌, ◌^◌, ◌∙◌, arith, rules}
+use Rattle.std.proofs.Common.{◌≡◌, true, ◌∙◌, arith, rules}
 use Rattle.cx_text.specs.Words.{is_digits}
 use Rattle.cx_text.proofs.Digits.{few_digits, digit_at, room, grown, next_digit}
 use Rattle.cx_text.proofs.value.natural.Goals as goal

@@ -1,7 +1,7 @@
-use Rattle.std.proofs.Common.{rules, arith, ◌≡◌, ◌<◌, ◌++◌, ◌∷◌, [], ℕ, List, map, length, sym, ◌∙◌, ap, false}
+use Rattle.std.proofs.Common.{rules, ◌<◌, length}
 use Rattle.std.proofs.lemmas.List.{map_push}
-use Rattle.cx_text.specs.Views.{now_all, is_comment}
-use Rattle.cx_text.proofs.WordsKept.{word_taken, all_taken, words_kept, words_dropped}
+use Rattle.cx_text.specs.Views.{now_all}
+use Rattle.cx_text.proofs.WordsKept.{word_taken, all_taken, words_kept}
 use Rattle.cx_text.proofs.words.split_words.Goals as goal
 
 pub loop-rest-preserved-in-Continue-1 : goal.loop-rest-preserved-in-Continue-1

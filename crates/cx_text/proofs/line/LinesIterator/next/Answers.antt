@@ -1,8 +1,8 @@
-use Rattle.std.proofs.Common.{rules, ◌≡◌, ◌<◌, ℕ, List, length, [], ap, sym, refl, arith}
+use Rattle.std.proofs.Common.{rules, ◌<◌, ℕ, List, length, ap, refl, arith}
 use Rattle.std.specs.List.{slice_split}
 use Rattle.std.proofs.lemmas.List.{nil_from_length}
 use Rattle.cx_text.specs.Lines.{lines_from}
-use Rattle.cx_text.specs.Views.{lines_left, line_seen}
+use Rattle.cx_text.specs.Views.{lines_left}
 use Rattle.cx_text.proofs.LinesLeft.{given_first, given_last, is_feed}
 use Rattle.cx_text.proofs.line.LinesIterator.next.Goals as goal
 
