@@ -5,3 +5,5 @@ pub mod Attempts
 pub mod Whole
 pub mod Pairs
 pub mod Backing
+pub mod Numbers
+pub mod Guarding
