@@ -12,6 +12,10 @@ which the program is started, and the program's own is then below it. The inputs
               waits and a watcher; for 4,800 numbers these are 52,836 calls
   largest     63 threads with 65,536 calls in all, on one mutex and one semaphore
   waiting     32 threads with about 64,000 calls in all, while 31 threads of lower number wait
+  comments    64,000 lines of comments before a short scenario
+  herd        62 threads wait for one semaphore, whose units another releases one by one, 4,092 in all; with a seed
+  lock_all    63 threads lock four mutexes at once, each in an order of its own, 208 times; with a seed
+  registered  15 threads with 4,000 stop-aware waits each for what is so already: each registers a callback and takes it off
   names       65,536 lines `wait_stop` with names of 16 bytes, the last of which has a fault: the reader alone
   padded      a short text padded with blanks and comments to 8,388,608 bytes, with a fault on its last line
   make N      where the program knows the word `make`: it reads nothing, and lines and bytes are those of what it writes,
@@ -95,6 +99,43 @@ def waiting():
     return text_of(lines)
 
 
+def comments():
+    """Lines that are dropped, and a scenario behind them."""
+    return '# a line that says nothing\n' * 64_000 + text_of(['cxthread 1', 'semaphore q 0 1', 'main', 'release q 1', 'acquire q', 'end'])
+
+
+def herd():
+    """Each unit of a semaphore finds many who wait for it."""
+    names = [f't{i}' for i in range(1, THREADS)]
+    lines = ['cxthread 1'] + [f'thread {n}' for n in names] + ['thread giver', 'semaphore q 0 65535']
+    for name in names:
+        lines += [f'body {name}'] + ['acquire q'] * 66 + ['end']
+    lines += ['body giver'] + ['release q 1'] * (66 * len(names)) + ['end', 'main']
+    lines += [f'start {n}' for n in names + ['giver']] + [f'join {n}' for n in names + ['giver']] + ['end']
+    return text_of(lines)
+
+
+def lock_all():
+    """Threads lock the same four mutexes, and begin at different ones, so that they back off."""
+    names, mutexes = [f't{i}' for i in range(1, THREADS + 1)], ['m0', 'm1', 'm2', 'm3']
+    lines = ['cxthread 1'] + [f'thread {n}' for n in names] + [f'mutex {m} 0' for m in mutexes]
+    for i, name in enumerate(names):
+        turned = mutexes[i % 4 :] + mutexes[: i % 4]
+        lines += [f'body {name}'] + ([f'lock_all {" ".join(turned)}'] + [f'unlock {m}' for m in mutexes]) * 208 + ['end']
+    lines += ['main'] + [f'start {n}' for n in names] + [f'join {n}' for n in names] + ['end']
+    return text_of(lines)
+
+
+def registered():
+    """Each wait finds its predicate true, and registers a callback before and takes it off behind."""
+    names = [f't{i}' for i in range(1, 16)]
+    lines = ['cxthread 1'] + [f'thread {n}' for n in names] + ['stop st main', 'mutex m 1', 'condition c']
+    for name in names:
+        lines += [f'body {name}', 'lock m'] + ['wait_stop c m st 0 = 0'] * 4_000 + ['unlock m', 'end']
+    lines += ['main'] + [f'start {n}' for n in names] + [f'join {n}' for n in names] + ['end']
+    return text_of(lines)
+
+
 def names():
     """The longest words that a call can have, on as many lines as may be, and a fault on the last."""
     mutex, condition = 'mutex_of_sixteen', 'cond_of_sixteen_'
@@ -150,6 +191,10 @@ REPLAYS = [
     ('largest', largest, ['replay'], 0),
     ('largest, seed', largest, ['replay', '1'], 0),
     ('waiting', waiting, ['replay'], 0),
+    ('comments', comments, ['replay'], 0),
+    ('herd, seed', herd, ['replay', '1'], 0),
+    ('lock_all, seed', lock_all, ['replay', '1'], 0),
+    ('registered', registered, ['replay'], 0),
     ('names', names, ['replay'], 3),
     ('padded', padded, ['replay'], 3),
 ]
