@@ -22,6 +22,8 @@ which the program is started, and the program's own is then below it. The inputs
               which has to be the text of `buffer N`
   check ..    where the program knows the word `check`: the record of `buffer 4800`, and one of about three million
               lines, in which 60 threads in a wait with a predicate are notified again and again
+  races       where the program knows the word `races`: a record of 65,520 items by 64 threads, nearly as many as may be,
+              with 4,096 accesses, as many as may be, to one variable that is free (bench/accesses.py)
 
 Items are the item lines of the record: changes, looks, controls and replies. MB are 1,000,000 bytes. Where an input has
 at least 5 MB, `over` is the peak memory over its bytes, and the time of `wc -lw` on it and the ratio of both stand in the
@@ -33,6 +35,7 @@ import subprocess
 import tempfile
 import time
 
+from accesses import text as accesses
 from options import PROGRAM, built, options
 
 LIMIT = 8_388_608
@@ -287,6 +290,10 @@ def main():
                 make(text_maker)
                 replay(['replay'])
                 table.row(name, written, ['check'], 0, items_in(written))
+        make(empty)
+        if only in 'races' and replay(['races']) != 2:
+            make(accesses)
+            table.row('races', text, ['races'], 0, items_in(text))
     if table.wrong:
         raise SystemExit(f'{table.wrong} inputs ended with another status than they should')
 

@@ -31,6 +31,10 @@ class Stuck:
         """Whether a smaller scenario may have schedules that end so."""
         return self.anyhow or 0 in statuses
 
+    def notes(self, _draft, _written):
+        """What more there is to say of a schedule that was found, a line each."""
+        return []
+
 
 class Replied:
     """A schedule in which one call has a given reply."""
@@ -55,6 +59,9 @@ class Replied:
 
     def keeps(self, _statuses):
         return True
+
+    def notes(self, _draft, _written):
+        return []
 
 
 class Races:
@@ -111,6 +118,10 @@ class Races:
 
     def keeps(self, _statuses):
         return True
+
+    def notes(self, draft, written):
+        """The accesses at their points of the record."""
+        return self.lines(draft, read_record(decoded(written))[0])
 
 
 def call_of(draft, thread, number):

@@ -45,6 +45,10 @@ class Hunt:
         self.tried += 1
         return status, self.goal.met(draft, status, written)
 
+    def written(self, found):
+        """What the program writes of the schedule that was found."""
+        return answer(self.program, found.words.split(), found.draft.text().encode('ascii'))[1]
+
     def wave(self, draft, text, seeds):
         return list(self.pool.map(lambda seed: self.replay(draft, text, seed), seeds))
 

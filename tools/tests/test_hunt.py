@@ -1,7 +1,4 @@
 """Tests of tools/hunt: it finds the schedule that goes wrong, and makes the scenario small."""
-import os
-import stat
-import tempfile
 import unittest
 
 from support import one_line, program, tool
@@ -86,15 +83,6 @@ join b
 end
 '''
 
-# A program that has the word `races`: it finds x racing exactly where a has an access to it before its first item.
-STUB = '''#!/bin/sh
-if [ "$1" = races ]; then
-    if grep -q '^a 0 x write'; then echo 'race x 0 1'; else echo 'free x'; fi
-    exit 0
-fi
-exec "%s" "$@"
-'''
-
 
 def calls(text):
     """How many calls a scenario has."""
@@ -145,30 +133,25 @@ class Hunted(unittest.TestCase):
         self.assertIn('no schedule of 20 seeds', said)
 
     def test_race(self):
-        """By a program that has the word; where the real one has none, one line says so."""
-        with tempfile.TemporaryDirectory() as folder:
-            path = os.path.join(folder, 'stub')
-            with open(path, 'w', encoding='ascii') as file:
-                file.write(STUB % os.environ['CXTHREAD'])
-            os.chmod(path, os.stat(path).st_mode | stat.S_IXUSR)
-            words = ['--seeds', '20', '--race', 'x', '--access', 'a 1 x write', '--access', 'b 1 x write']
-            status, written, said = tool('hunt', words, TWO_WRITES, program=path)
-            self.assertEqual((status, written), (1, ''), said)
-            words[5] = 'a 0 x write'
-            status, written, said = tool('hunt', words, TWO_WRITES, program=path)
-            self.assertEqual(status, 0, said)
-            self.assertEqual(written.split('\n')[0], '# replay: two accesses to x race')
-            self.assertLess(calls(written), 3)
-
-    def test_race_report(self):
-        """By the program's own word, where it has that: b writes without the mutex where its try_lock fails."""
-        words = ['--race', 'x', '--access', 'a 1 x write', '--access', 'b 1 x write']
-        if program(['races'], '')[0] == 2:
-            one_line(self, tool('hunt', words, TWO_WRITES), 'hunt: the program has no word races')
-            return
+        """Without a seed the mutex orders both writes; with one that lets the try_lock of b fail it doesn't."""
+        words = ['--seeds', '200', '--race', 'x', '--access', 'a 1 x write', '--access', 'b 1 x write']
         status, written, said = tool('hunt', words, TWO_WRITES)
         self.assertEqual(status, 0, said)
-        self.assertIn('two accesses to x race', written.split('\n')[0])
+        self.assertRegex(said, 'replay [0-9]+: two accesses to x race')
+        lines = written.split('\n')
+        self.assertIn('two accesses to x race', lines[0])
+        self.assertLess(calls(written), 7)
+        accesses = [line[2:] for line in lines if line.startswith('# ')][1:]
+        self.assertEqual([line.split()[0] for line in accesses], ['a', 'b'], written)
+        record = program(words_of(written), written)[1]
+        text = record + '\n'.join(['accesses 1'] + accesses + ['done', ''])
+        self.assertEqual(program(['races'], text), (0, 'race x 0 1\n'))
+
+    def test_no_race(self):
+        """Where both lock the mutex, no schedule has a race."""
+        words = ['--seeds', '50', '--race', 'x', '--access', 'a 1 x write', '--access', 'b 1 x write']
+        status, written, said = tool('hunt', words, TWO_WRITES.replace('try_lock m', 'lock m'))
+        self.assertEqual((status, written), (1, ''), said)
 
 
 class Refused(unittest.TestCase):

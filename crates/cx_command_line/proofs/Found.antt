@@ -66,6 +66,9 @@ run_level = level_of (alone (codes "run"))
 abbrev check_level : Shape
 check_level = level_of (alone (codes "check"))
 
+abbrev races_level : Shape
+races_level = level_of (alone (codes "races"))
+
 abbrev replay_level : Shape
 replay_level = level_of (with_one (codes "replay") (new_rule (codes "seed")))
 
@@ -76,7 +79,7 @@ make_level = level_of (with_one (codes "make") (record (new_rule (codes "items")
 abbrev holding : Text → Text → Held
 holding id x = record { rows = []; pending = Some (id, x ∷ []); skip = 0 }
 
--- ---- words behind which nothing stands: `run` and `check`
+-- ---- words behind which nothing stands: `run`, `check` and `races`
 
 run_fault : (x : Text) (more : List Text) → is_flag x ≡ false → fault_of forms (program_word ∷ codes "run" ∷ x ∷ more) ≡ kind.UnknownArgument ∷ []
 unfolding clap_on_literals
@@ -85,6 +88,10 @@ run_fault x more plain = below_fault (codes "run") (x ∷ more) ∙ ap (λ t. or
 check_fault_ : (x : Text) (more : List Text) → is_flag x ≡ false → fault_of forms (program_word ∷ codes "check" ∷ x ∷ more) ≡ kind.UnknownArgument ∷ []
 unfolding clap_on_literals
 check_fault_ x more plain = below_fault (codes "check") (x ∷ more) ∙ ap (λ t. or_else t []) (first_fault check_level x more plain)
+
+races_fault : (x : Text) (more : List Text) → is_flag x ≡ false → fault_of forms (program_word ∷ codes "races" ∷ x ∷ more) ≡ kind.UnknownArgument ∷ []
+unfolding clap_on_literals
+races_fault x more plain = below_fault (codes "races") (x ∷ more) ∙ ap (λ t. or_else t []) (first_fault races_level x more plain)
 
 -- ---- words behind which one word stands: `replay` and `make`
 
@@ -150,9 +157,10 @@ pub record IsOther (w : Text) : Type 0 where
   pub replay : bytes_eq (codes "replay") w ≡ false
   pub check : bytes_eq (codes "check") w ≡ false
   pub make : bytes_eq (codes "make") w ≡ false
+  pub races : bytes_eq (codes "races") w ≡ false
 
 not_met : (w : Text) → IsOther w → find (answers_to w) names ≡ None
-not_met w h = rw (h.run, h.replay, h.check, h.make) refl
+not_met w h = rw (h.run, h.replay, h.check, h.make, h.races) refl
 
 top_turn : (w : Text) → IsOther w → is_flag w ≡ false → turn_fault whole.top names (going 1 nothing_held) w ≡ stray_fault whole.top
 top_turn w h plain = rw (not_met w h, no_dashes w plain, no_long w plain, no_short w plain) refl
@@ -172,11 +180,11 @@ other_fault w rest h plain = ap (with_turn w rest) (top_turn w h plain)
 flag_is : (b : ℕ) (bs name : Text) (n : ℕ) → b ≡ 45 → (45 == n) ≡ false → bytes_eq (b ∷ bs) (n ∷ name) ≡ false
 flag_is b bs name n e other = rw (e, other) refl
 
-flag_other : (w : Text) → is_flag w ≡ true → (bytes_eq w (codes "run") ≡ false) × (bytes_eq w (codes "replay") ≡ false) × (bytes_eq w (codes "check") ≡ false) × (bytes_eq w (codes "make") ≡ false)
+flag_other : (w : Text) → is_flag w ≡ true → (bytes_eq w (codes "run") ≡ false) × (bytes_eq w (codes "replay") ≡ false) × (bytes_eq w (codes "check") ≡ false) × (bytes_eq w (codes "make") ≡ false) × (bytes_eq w (codes "races") ≡ false)
 flag_other [] h = absurd cc
 flag_other (b ∷ bs) h =
     let e : b ≡ 45 = eqb-true b 45 h in
-    (flag_is b bs (codes "un") 114 e refl, flag_is b bs (codes "eplay") 114 e refl, flag_is b bs (codes "heck") 99 e refl, flag_is b bs (codes "ake") 109 e refl)
+    (flag_is b bs (codes "un") 114 e refl, flag_is b bs (codes "eplay") 114 e refl, flag_is b bs (codes "heck") 99 e refl, flag_is b bs (codes "ake") 109 e refl, flag_is b bs (codes "aces") 114 e refl)
 
 no_third : (a b c : Bool) (x : Option ℕ) → (if (a && b && false) && c then x else None) ≡ None
 no_third true true c x = refl
@@ -191,7 +199,7 @@ flag_seed (b ∷ bs) h =
     subst (λ n. seed_of (n ∷ bs) ≡ None) (sym e) (no_third (nat_lt 0 (length (45 ∷ bs))) (nat_le (length (45 ∷ bs)) 20) (nat_lt (digits_from 0 (45 ∷ bs)) (2 ^ 64)) (Some (digits_from 0 (45 ∷ bs))))
 
 first_flag : (w : Text) (rest : List Text) → is_flag w ≡ true → None ≡ command_of (w ∷ rest)
-first_flag w [] h = let o = flag_other w h in rw (o.0, o.1, o.2) refl
+first_flag w [] h = let o = flag_other w h in rw (o.0, o.1, o.2, o.4) refl
 first_flag w (x ∷ []) h = let o = flag_other w h in rw (o.1, o.3) refl
 first_flag w (x ∷ y ∷ rest) h = refl
 
@@ -242,10 +250,10 @@ taken : (ws : List Text) → fault_of forms (program_word ∷ ws) ≡ [] → com
 taken ws fault is c (inl h) = h.1 ∙ is
 taken ws fault is c (inr h) = absurd (h.0 fault)
 
-alone_none : (w : Text) (rest : List Text) → bytes_eq w (codes "run") ≡ false → bytes_eq w (codes "replay") ≡ false → bytes_eq w (codes "check") ≡ false → bytes_eq w (codes "make") ≡ false → None ≡ command_of (w ∷ rest)
-alone_none w [] r p c m = rw (r, p, c) refl
-alone_none w (x ∷ []) r p c m = rw (p, m) refl
-alone_none w (x ∷ y ∷ rest) r p c m = refl
+alone_none : (w : Text) (rest : List Text) → bytes_eq w (codes "run") ≡ false → bytes_eq w (codes "replay") ≡ false → bytes_eq w (codes "check") ≡ false → bytes_eq w (codes "make") ≡ false → bytes_eq w (codes "races") ≡ false → None ≡ command_of (w ∷ rest)
+alone_none w [] r p c m a = rw (r, p, c, a) refl
+alone_none w (x ∷ []) r p c m a = rw (p, m) refl
+alone_none w (x ∷ y ∷ rest) r p c m a = refl
 
 run_told : (rest : List Text) → list_any is_flag rest ≡ false → Told (codes "run" ∷ rest)
 unfolding clap_on_literals
@@ -258,6 +266,12 @@ unfolding clap_on_literals
 check_told [] plain = taken (codes "check" ∷ []) refl refl
 check_told (x ∷ []) plain = refused (codes "check" ∷ x ∷ []) kind.UnknownArgument [] (check_fault_ x [] (or_parts _ _ plain).0) refl
 check_told (x ∷ y ∷ rest) plain = refused (codes "check" ∷ x ∷ y ∷ rest) kind.UnknownArgument [] (check_fault_ x (y ∷ rest) (or_parts _ _ plain).0) refl
+
+races_told : (rest : List Text) → list_any is_flag rest ≡ false → Told (codes "races" ∷ rest)
+unfolding clap_on_literals
+races_told [] plain = taken (codes "races" ∷ []) refl refl
+races_told (x ∷ []) plain = refused (codes "races" ∷ x ∷ []) kind.UnknownArgument [] (races_fault x [] (or_parts _ _ plain).0) refl
+races_told (x ∷ y ∷ rest) plain = refused (codes "races" ∷ x ∷ y ∷ rest) kind.UnknownArgument [] (races_fault x (y ∷ rest) (or_parts _ _ plain).0) refl
 
 replay_told : (rest : List Text) → list_any is_flag rest ≡ false → Told (codes "replay" ∷ rest)
 unfolding clap_on_literals
@@ -286,7 +300,7 @@ by_word w rest name told plain h = subst (λ v. Told (v ∷ rest)) (sym (same_wo
 other_told : (w : Text) (rest : List Text) → is_flag w ≡ false → IsOther w → Told (w ∷ rest)
 other_told w rest plain h =
     refused (w ∷ rest) kind.UnknownArgument (kind.InvalidSubcommand ∷ []) (other_fault w rest h plain)
-    (alone_none w rest (other_way (codes "run") w h.run) (other_way (codes "replay") w h.replay) (other_way (codes "check") w h.check) (other_way (codes "make") w h.make))
+    (alone_none w rest (other_way (codes "run") w h.run) (other_way (codes "replay") w h.replay) (other_way (codes "check") w h.check) (other_way (codes "make") w h.make) (other_way (codes "races") w h.races))
 
 pub told : (ws : List Text) → list_any is_flag ws ≡ false → Told ws
 told [] plain = none_at_all
@@ -300,7 +314,10 @@ told (w ∷ rest) plain =
           | inl e ↦ by_word w rest (codes "check") (check_told rest) p.1 e
           | inr check ↦ elim (cases_Bool (bytes_eq (codes "make") w)) [
             | inl e ↦ by_word w rest (codes "make") (make_told rest) p.1 e
-            | inr make ↦ other_told w rest p.0 (record { run = run; replay = replay; check = check; make = make })
+            | inr make ↦ elim (cases_Bool (bytes_eq (codes "races") w)) [
+              | inl e ↦ by_word w rest (codes "races") (races_told rest) p.1 e
+              | inr races ↦ other_told w rest p.0 (record { run = run; replay = replay; check = check; make = make; races = races })
+            ]
           ]
         ]
       ]

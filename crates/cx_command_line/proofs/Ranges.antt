@@ -21,11 +21,12 @@ seed_good : (o : Option ℕ) → IfSome (option_map seeded o) IsInRange
 seed_good None = tt
 seed_good (Some n) = tt
 
-one_good : (a b c : Bool) → IfSome (if a then Some commands.Run else (if b then Some (commands.Replay None) else (if c then Some commands.Check else None))) IsInRange
-one_good true b c = tt
-one_good false true c = tt
-one_good false false true = tt
-one_good false false false = tt
+one_good : (a b c d : Bool) → IfSome (if a then Some commands.Run else (if b then Some (commands.Replay None) else (if c then Some commands.Check else (if d then Some commands.Races else None)))) IsInRange
+one_good true b c d = tt
+one_good false true c d = tt
+one_good false false true d = tt
+one_good false false false true = tt
+one_good false false false false = tt
 
 two_good : (a b : Bool) (x : List ℕ) → IfSome (if a then option_map seeded (seed_of x) else (if b then option_map made (option_and_then in_range (seed_of x)) else None)) IsInRange
 two_good true b x = seed_good (seed_of x)
@@ -34,7 +35,7 @@ two_good false false x = tt
 
 pub all_in_range : (ws : List (List ℕ)) → IfSome (command_of ws) IsInRange
 all_in_range [] = tt
-all_in_range (w ∷ []) = one_good (bytes_eq w (codes "run")) (bytes_eq w (codes "replay")) (bytes_eq w (codes "check"))
+all_in_range (w ∷ []) = one_good (bytes_eq w (codes "run")) (bytes_eq w (codes "replay")) (bytes_eq w (codes "check")) (bytes_eq w (codes "races"))
 all_in_range (w ∷ x ∷ []) = two_good (bytes_eq w (codes "replay")) (bytes_eq w (codes "make")) x
 all_in_range (w ∷ x ∷ y ∷ rest) = tt
 

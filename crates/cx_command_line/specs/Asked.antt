@@ -11,13 +11,14 @@ seeded n = commands.Replay (Some n)
 abbrev pub made : ℕ → Command
 made n = commands.Make n
 
--- `run`, `replay`, or `replay` and a seed, or `check`, or `make` and a number of items
+-- `run`, `replay`, or `replay` and a seed, or `check`, or `races`, or `make` and a number of items
 abbrev pub command_of : List (List ℕ) → Option Command
 command_of (w ∷ []) =
     if bytes_eq w (codes "run") then Some commands.Run
     else (if bytes_eq w (codes "replay") then Some (commands.Replay None)
     else (if bytes_eq w (codes "check") then Some commands.Check
-    else None))
+    else (if bytes_eq w (codes "races") then Some commands.Races
+    else None)))
 command_of (w ∷ x ∷ []) =
     if bytes_eq w (codes "replay") then option_map seeded (seed_of x)
     else (if bytes_eq w (codes "make") then option_map made (items_of x)

@@ -21,10 +21,11 @@ program = record (new_app (codes "cxthread")) { top = record (alone (codes "cxth
 
 -- the words that the program knows, and what may stand behind each
 abbrev pub forms : App
-forms = with_subcommand (with_subcommand (with_subcommand (with_subcommand program (alone (codes "run")))
+forms = with_subcommand (with_subcommand (with_subcommand (with_subcommand (with_subcommand program (alone (codes "run")))
     (with_one (codes "replay") (new_rule (codes "seed"))))
     (alone (codes "check")))
-    (with_one (codes "make") (record (new_rule (codes "items")) { required = true }))
+    (with_one (codes "make") (record (new_rule (codes "items")) { required = true })))
+    (alone (codes "races"))
 
 -- the command of a word, with the word behind it if there is one
 abbrev pub command_with : Text → Option Text → Option Text → Option Command
@@ -33,7 +34,8 @@ command_with w seed items =
     else (if bytes_eq w (codes "replay") then with_seed seed
     else (if bytes_eq w (codes "check") then Some commands.Check
     else (if bytes_eq w (codes "make") then option_map made (option_and_then items_of items)
-    else None)))
+    else (if bytes_eq w (codes "races") then Some commands.Races
+    else None))))
   where
     with_seed : Option Text → Option Command
     with_seed None = Some (commands.Replay None)

@@ -23,6 +23,8 @@ pub enum Command {
     Check,
     /// To make the scenario of so many items, from 1 to 4,800.
     Make(u32),
+    /// To say which accesses to plain variables race by a record.
+    Races,
 }
 
 /// Whether `clap` would take a word for a flag.
@@ -51,6 +53,7 @@ fn command_with(name: &str, seed: Option<&str>, items: Option<&str>) -> Option<C
         },
         "check" => Some(Command::Check),
         "make" => Some(Command::Make(items_of(items?.as_bytes())?)),
+        "races" => Some(Command::Races),
         _ => None,
     }
 }
@@ -107,6 +110,7 @@ fn has_form(words: &[String]) -> bool
         [word] if word.as_str() == "run" => true,
         [word] if word.as_str() == "replay" => true,
         [word] if word.as_str() == "check" => true,
+        [word] if word.as_str() == "races" => true,
         [word, seed] if word.as_str() == "replay" => seed_of(seed.as_bytes()).is_some(),
         [word, items] if word.as_str() == "make" => items_of(items.as_bytes()).is_some(),
         _ => false,

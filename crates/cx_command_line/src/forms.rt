@@ -16,6 +16,7 @@ pub fn forms<'a>(alloc: Global) -> Result<clap::Command<'a>, NoMemory>
     let check = clap::Command::new(alloc, "check");
     let items = clap::Arg::new(alloc, "items").required(true);
     let make = clap::Command::new(alloc, "make").arg(items)?;
+    let races = clap::Command::new(alloc, "races");
     let program = clap::Command::new(alloc, "cxthread")
         .disable_help_flag(true)
         .disable_help_subcommand(true)
@@ -23,6 +24,7 @@ pub fn forms<'a>(alloc: Global) -> Result<clap::Command<'a>, NoMemory>
         .subcommand(run)?
         .subcommand(replay)?
         .subcommand(check)?
-        .subcommand(make)?;
+        .subcommand(make)?
+        .subcommand(races)?;
     Ok(program)
 }

@@ -1,6 +1,8 @@
 pub mod Replays
 pub mod Completing
 pub mod Found
+pub mod Raced
+pub mod RacesComplete
 pub mod Building
 pub mod Runs
 pub mod Made

@@ -11,6 +11,7 @@ no_memory_completes (Some commands.Run) left = λ text s told means built. inr r
 no_memory_completes (Some (commands.Replay seed)) left = λ text s end_ told means ends. inr refl
 no_memory_completes (Some commands.Check) left = λ text x told means. inr refl
 no_memory_completes (Some (commands.Make items)) left = inr refl
+no_memory_completes (Some commands.Races) left = λ text x told means. record { free = λ flaw cycle. inr refl; wrong = λ w. inr refl }
 
 pub no_memory_unbuilt : (command : Option Command) (left : Option (List ℕ)) → CompletesOnUnbuilt command left status.NoMemory
 no_memory_unbuilt None left = tt
@@ -23,3 +24,4 @@ no_memory_fault (Some commands.Run) left = λ text f told means. inr refl
 no_memory_fault (Some (commands.Replay seed)) left = λ text f told means. inr refl
 no_memory_fault (Some commands.Check) left = λ text f told means. inr refl
 no_memory_fault (Some (commands.Make items)) left = tt
+no_memory_fault (Some commands.Races) left = λ text f told has. inr refl

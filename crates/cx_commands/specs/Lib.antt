@@ -8,4 +8,6 @@ pub mod Findings
 pub mod Built
 pub mod Running
 pub mod Making
+pub mod Racing
+pub mod RacesFound
 pub mod Commanded

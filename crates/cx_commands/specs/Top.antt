@@ -17,7 +17,7 @@ abbrev pub limit : ℕ
 limit = 8388608
 
 abbrev pub usage : List ℕ
-usage = codes "usage: cxthread run | replay [SEED] | check | make N | trial N\n"
+usage = codes "usage: cxthread run | replay [SEED] | check | make N | trial N | races\n"
 
 -- ---- what is written of a text
 

@@ -76,7 +76,7 @@ fn check_rest(
 }
 
 /// What stands in a text behind so many bytes.
-fn behind(text: &[u8], len: usize) -> &[u8]
+pub(crate) fn behind(text: &[u8], len: usize) -> &[u8]
     requires { len ≤ length text.now }
     ensures { result.now ≡ drop len text.now }
 {

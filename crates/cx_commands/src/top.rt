@@ -10,6 +10,7 @@ ghost use Rattle.cx_commands.specs.Commanded.{SaysDone, SaysNotBuilt, SaysStuck,
 
 use crate::checking::check_call;
 use crate::making::make_call;
+use crate::racing::races_call;
 use crate::replaying::replay_call;
 use crate::running::run_call;
 use crate::status::Status;
@@ -23,7 +24,7 @@ use std::sync::Wait;
 use std::thread::Threads;
 
 /// What is written where the words are none that the program knows.
-const USAGE: &[u8] = b"usage: cxthread run | replay [SEED] | check | make N | trial N\n";
+const USAGE: &[u8] = b"usage: cxthread run | replay [SEED] | check | make N | trial N | races\n";
 
 /// Does what a command asks for. Waits where it runs a scenario.
 #[tactic(auto, using(crate::proofs::Joined::none_joined))]
@@ -70,6 +71,7 @@ fn do_command<
         Command::Replay(seed) => (replay_call(alloc, seed, source, sink), None),
         Command::Check => (check_call(alloc, source, sink), None),
         Command::Make(items) => (make_call(alloc, items, sink), None),
+        Command::Races => (races_call(alloc, source, sink), None),
     }
 }
 
@@ -82,6 +84,7 @@ fn do_command<
 /// - `replay`, or `replay` and a seed of 1 to 20 decimal digits that fits in 64 bits: the answer is that of [`replay_call`].
 /// - `check`: the answer is that of [`check_call`].
 /// - `make` and a number of 1 to 20 decimal digits, from 1 to 4,800: the answer is that of [`make_call`], and nothing is read.
+/// - `races`: the answer is that of [`races_call`].
 /// - Any other words are `BadWords`, for which the usage line is written and nothing is read.
 ///
 /// Main's accesses are given with `Done` of `run` alone. For other words than `run` the spawner is left as it was. Whatever

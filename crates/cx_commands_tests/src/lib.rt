@@ -8,6 +8,8 @@ mod made;
 #[cfg(test)]
 mod making_tests;
 #[cfg(test)]
+mod racing_tests;
+#[cfg(test)]
 mod rows;
 #[cfg(test)]
 mod running_tests;

@@ -12,7 +12,7 @@ use std::sync::Wait;
 use std::test::Fail;
 use std::thread::Threads;
 
-const USAGE: &[u8] = b"usage: cxthread run | replay [SEED] | check | make N | trial N\n";
+const USAGE: &[u8] = b"usage: cxthread run | replay [SEED] | check | make N | trial N | races\n";
 
 fn owned(alloc: Global, words: &[&str]) -> Result<Vec<String>, Fail> {
     let mut all = Vec::new(alloc);
@@ -125,6 +125,7 @@ fn words_of_no_form_are_refused(rt: HostRuntime) -> Result<(), Fail> {
         &["replay", "000000000000000000001"],
         &["replay", "1", "2"],
         &["check", "1"],
+        &["races", "1"],
         &["--help"],
     ] {
         let text = ONE_SEMAPHORE.scenario.to_vec(alloc)?;

@@ -1,0 +1,6 @@
+pub mod RecordPart
+pub mod PartFound
+pub mod AccessLines
+pub mod AccessesMeant
+pub mod AccessSteps
+pub mod AccessesSeen
