@@ -14,7 +14,7 @@ which the program is started, and the program's own is then below it. The inputs
   waiting     32 threads with about 64,000 calls in all, while 31 threads of lower number wait
   comments    64,000 lines of comments before a short scenario
   herd        62 threads wait for one semaphore, whose units another releases one by one, 4,092 in all; with a seed
-  lock_all    63 threads lock four mutexes at once, each in an order of its own, 208 times; with a seed
+  lock_all    63 threads lock four mutexes at once, each in an order of its own, 207 times; with a seed
   registered  15 threads with 4,000 stop-aware waits each for what is so already: each registers a callback and takes it off
   names       65,536 lines `wait_stop` with names of 16 bytes, the last of which has a fault: the reader alone
   padded      a short text padded with blanks and comments to 8,388,608 bytes, with a fault on its last line
@@ -124,7 +124,7 @@ def lock_all():
     lines = ['cxthread 1'] + [f'thread {n}' for n in names] + [f'mutex {m} 0' for m in mutexes]
     for i, name in enumerate(names):
         turned = mutexes[i % 4 :] + mutexes[: i % 4]
-        lines += [f'body {name}'] + ([f'lock_all {" ".join(turned)}'] + [f'unlock {m}' for m in mutexes]) * 208 + ['end']
+        lines += [f'body {name}'] + ([f'lock_all {" ".join(turned)}'] + [f'unlock {m}' for m in mutexes]) * 207 + ['end']
     lines += ['main'] + [f'start {n}' for n in names] + [f'join {n}' for n in names] + ['end']
     return text_of(lines)
 
