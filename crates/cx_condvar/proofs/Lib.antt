@@ -1,0 +1,4 @@
+pub mod Members
+pub mod Entering
+pub mod Passes
+pub mod Logging

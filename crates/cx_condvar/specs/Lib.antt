@@ -1,0 +1,5 @@
+pub mod Kinds
+pub mod Condvars
+pub mod Acts
+pub mod Waiting
+pub mod Logs
