@@ -6,11 +6,11 @@
 Ours is the program that `rt ci`, or `rt run` in crates/cx_loops, leaves. Beside it stand the same loops over libstdc++
 (g++), libc++ (clang++) and Rust's std (rustc), from bench/peers, each where its compiler is here. A figure is the least
 of N runs (5 if left out) in nanoseconds a round: a lock and unlock, exclusive or shared, a release and acquire, a
-count-down, a release there and back, a phase of a barrier, a call on a flag whose function has returned. The peers take
-turns, so that a busy moment meets all of them. Ratios are ours over the other. With `--before`, an earlier build of our
-loops takes its turns too. The last line is the processor time of a
-whole process in which a caller sleeps a second on a semaphore. It stands outside the gate, and nothing is proved of the
-times.
+count-down, a release there and back, a phase of a barrier, a call on a flag whose function has returned, a number handed
+over by two conditions there and back, a notification while nobody waits, a number got or set under a held lock. The peers
+take turns, so that a busy moment meets all of them. Ratios are ours over the other. With `--before`, an earlier build of
+our loops takes its turns too. The last line is the processor time of a whole process in which a caller sleeps a second on
+a semaphore. It stands outside the gate, and nothing is proved of the times.
 """
 import os
 import resource

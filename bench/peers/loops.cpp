@@ -3,6 +3,7 @@
 // A second thread is alive throughout: the C library takes no atomic step in a process of one thread.
 #include <barrier>
 #include <chrono>
+#include <condition_variable>
 #include <cstdio>
 #include <cstdlib>
 #include <cstring>
@@ -93,6 +94,33 @@ static Nanoseconds call_once_passive(long n) {
     });
 }
 
+// Two threads hand a number over, there and back.
+static Nanoseconds condition_pingpong(long n) {
+    std::mutex m;
+    std::condition_variable full, empty;
+    int number = 0;
+    return together(2, [&](unsigned t) {
+        std::condition_variable &mine = t == 0 ? empty : full, &other = t == 0 ? full : empty;
+        int wanted = t == 0 ? 0 : 1;
+        for (long i = 0; i < n; ++i) {
+            std::unique_lock<std::mutex> lock(m);
+            while (number != wanted) mine.wait(lock);
+            number = 1 - wanted;
+            other.notify_one();
+        }
+    });
+}
+
+static Nanoseconds notify_one_nobody(long n) {
+    std::condition_variable c;
+    return timed([&] {
+        for (long i = 0; i < n; ++i) {
+            c.notify_one();
+            asm volatile("" : : : "memory");
+        }
+    });
+}
+
 int main(int count, char **words) {
     if (count != 4) return 2;
     const char *name = words[1];
@@ -109,6 +137,8 @@ int main(int count, char **words) {
                         : is("latch_count_down")          ? latch_count_down(n)
                         : is("barrier_phase")             ? barrier_phase(n, threads)
                         : is("call_once_passive")         ? call_once_passive(n)
+                        : is("condition_pingpong")        ? condition_pingpong(n)
+                        : is("notify_one_nobody")         ? notify_one_nobody(n)
                                                           : 0;
     std::printf("%s %u %ld %llu\n", name, threads, n, taken);
     std::fflush(stdout);

@@ -1,7 +1,8 @@
 // The loops of bench/loops.py over Rust's std::sync, which has neither semaphores nor latches.
 //   loops NAME N THREADS   runs that loop N times in all, and prints: NAME THREADS N NANOSECONDS
 use std::hint::black_box;
-use std::sync::{Barrier, Mutex, Once, RwLock};
+use std::sync::atomic::{AtomicBool, Ordering};
+use std::sync::{Barrier, Condvar, Mutex, Once, RwLock};
 use std::thread;
 use std::time::{Duration, Instant};
 
@@ -76,6 +77,40 @@ fn call_once_passive(n: u64) -> u128 {
     })
 }
 
+// Two threads hand a number over, there and back.
+fn condition_pingpong(n: u64) -> u128 {
+    let m = Mutex::new(0);
+    let (full, empty) = (Condvar::new(), Condvar::new());
+    let side = |mine: &Condvar, other: &Condvar, wanted: i32| {
+        for _ in 0..n {
+            let mut number = m.lock().unwrap();
+            while *number != wanted {
+                number = mine.wait(number).unwrap();
+            }
+            *number = 1 - wanted;
+            other.notify_one();
+        }
+    };
+    let second = AtomicBool::new(false);
+    together(2, || {
+        if second.swap(true, Ordering::SeqCst) {
+            side(&full, &empty, 1);
+        } else {
+            side(&empty, &full, 0);
+        }
+    })
+}
+
+fn notify_one_nobody(n: u64) -> u128 {
+    let c = Condvar::new();
+    timed(|| {
+        for i in 0..n {
+            c.notify_one();
+            black_box(i);
+        }
+    })
+}
+
 fn main() {
     let words: Vec<String> = std::env::args().collect();
     thread::spawn(|| thread::sleep(Duration::from_secs(3600)));
@@ -86,6 +121,8 @@ fn main() {
         "shared_mutex_read" => shared_mutex_read(n, threads),
         "barrier_phase" => barrier_phase(n, threads),
         "call_once_passive" => call_once_passive(n),
+        "condition_pingpong" => condition_pingpong(n),
+        "notify_one_nobody" => notify_one_nobody(n),
         _ => 0,
     };
     println!("{} {threads} {n} {taken}", words[1]);

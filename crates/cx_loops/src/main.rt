@@ -11,6 +11,7 @@
 ghost use Rattle.std.specs.Prelude.{◌≤◌};
 
 mod barriers;
+mod conditions;
 mod flags;
 mod latches;
 mod mutexes;
@@ -44,6 +45,10 @@ enum Work {
     Latch,
     Phase,
     Done,
+    HandOver,
+    Notify,
+    Get,
+    Set,
 }
 
 // A loop: its name, how often it is run by default, and its threads.
@@ -54,7 +59,7 @@ struct Row {
     threads: u32,
 }
 
-const ROWS: [Row; 12] = [
+const ROWS: [Row; 16] = [
     Row {
         work: Work::Turn,
         often: 5_000_000,
@@ -115,6 +120,26 @@ const ROWS: [Row; 12] = [
         often: 5_000_000,
         threads: 1,
     },
+    Row {
+        work: Work::HandOver,
+        often: 100_000,
+        threads: 2,
+    },
+    Row {
+        work: Work::Notify,
+        often: 5_000_000,
+        threads: 1,
+    },
+    Row {
+        work: Work::Get,
+        often: 5_000_000,
+        threads: 1,
+    },
+    Row {
+        work: Work::Set,
+        often: 5_000_000,
+        threads: 1,
+    },
 ];
 
 impl Work {
@@ -130,6 +155,10 @@ impl Work {
             Work::Latch => "latch_count_down",
             Work::Phase => "barrier_phase",
             Work::Done => "call_once_passive",
+            Work::HandOver => "condition_pingpong",
+            Work::Notify => "notify_one_nobody",
+            Work::Get => "mutex_get",
+            Work::Set => "mutex_set",
         }
     }
 }
@@ -214,6 +243,10 @@ fn measure<R: Threads + Wait + Clock + Copy + Send + 'static>(
             n.min(barriers::MOST_PHASES),
         ),
         Work::Done => flags::done(rt, alloc, n),
+        Work::HandOver => conditions::ping_pong(rt, alloc, n.min(conditions::MOST_HAND_OVERS)),
+        Work::Notify => conditions::nobody(rt, alloc, n),
+        Work::Get => conditions::gets(rt, alloc, n),
+        Work::Set => conditions::sets(rt, alloc, n),
     }
 }
 

@@ -31,6 +31,9 @@ fn one_thread_makes_all_rounds(rt: HostRuntime) -> Result<(), Fail> {
     assert!(rt; rounds(&rt, rt.alloc(), Work::Semaphore, 1) == Some(8));
     assert!(rt; rounds(&rt, rt.alloc(), Work::Latch, 1) == Some(8));
     assert!(rt; rounds(&rt, rt.alloc(), Work::Done, 1) == Some(8));
+    assert!(rt; rounds(&rt, rt.alloc(), Work::Notify, 1) == Some(8));
+    assert!(rt; rounds(&rt, rt.alloc(), Work::Get, 1) == Some(8));
+    assert!(rt; rounds(&rt, rt.alloc(), Work::Set, 1) == Some(8));
     Ok(())
 }
 
@@ -42,5 +45,6 @@ fn threads_share_the_rounds(rt: HostRuntime) -> Result<(), Fail> {
     assert!(rt; rounds(&rt, rt.alloc(), Work::Phase, 4) == Some(8));
     assert!(rt; rounds(&rt, rt.alloc(), Work::PingPong, 2) == Some(8));
     assert!(rt; rounds(&rt, rt.alloc(), Work::Sleep, 2) == Some(1));
+    assert!(rt; rounds(&rt, rt.alloc(), Work::HandOver, 2) == Some(8));
     Ok(())
 }
