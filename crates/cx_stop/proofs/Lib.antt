@@ -1,0 +1,14 @@
+pub mod Members
+pub mod Others
+pub mod Taking
+pub mod Open
+pub mod Fitting
+pub mod Going
+pub mod Passing
+pub mod Ways
+pub mod Removing
+pub mod Asking
+pub mod Registering
+pub mod Settling
+pub mod Sourcing
+pub mod Lent

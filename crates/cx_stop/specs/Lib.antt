@@ -1,0 +1,12 @@
+pub mod Values
+pub mod Kinds
+pub mod Stops
+pub mod Went
+pub mod Acts
+pub mod Runs
+pub mod Puts
+pub mod Requests
+pub mod Removals
+pub mod Registers
+pub mod Tokens
+pub mod Deregistered
